@@ -1,4 +1,4 @@
--- Lines of instructions without labels, one after the other in the text.
+-- Lines of instructions without labels, one after another in the text.
 use Rattle.std.proofs.Common.{◌≡◌, ℕ, ◌+◌, ◌-◌, ◌%◌, ◌^◌, ◌<◌, ◌≤◌, Bool, true, false, List, [], ◌∷◌, ◌++◌, refl, ◌∙◌, ap, subst, arith, suc, Some, Ok}
 use Rattle.std.specs.Prelude.{None, pos, negsuc, nat_lt, ◌&&◌, ◌==◌}
 use Rattle.std.proofs.lemmas.Bool.{false≢true}
@@ -25,7 +25,7 @@ and-none : (b : Bool) → (b && false) ≡ false
 and-none true = refl
 and-none false = refl
 
--- whatever fits into the text
+-- every item that is short enough fits into the text
 pub fits_text : (t : ℕ) (item : SourceItem) → t % 4 ≡ 0 → t + size_of item ≤ 1048576 → fits_at (text_at t) item ≡ Ok tt
 unfolding fits_at section_address
 fits_text t item even small =
@@ -116,12 +116,12 @@ abbrev pub AreCode : List Entry → Type 0
 AreCode [] = Unit {0}
 AreCode (e ∷ es) = IsCode e × AreCode es
 
--- the bytes of all
+-- the number of bytes of all of them
 abbrev pub total : List Entry → ℕ
 total [] = 0
 total (e ∷ es) = size_of e.item + total es
 
--- each places pieces, the first this many bytes into the text
+-- each instruction places pieces, the first this many bytes into the text
 abbrev pub AllHavePieces : Values → ℕ → List Entry → Type 0
 AllHavePieces values t [] = Unit {0}
 AllHavePieces values t (e ∷ es) = HasPieces values (0x10000 + t) e.item × AllHavePieces values (t + size_of e.item) es

@@ -1,4 +1,4 @@
--- The labels of a whole drawn program, and both passes over what follows its statements.
+-- The labels of a whole drawn program, and both passes through what follows its statements.
 use Rattle.std.proofs.Common.{◌≡◌, ℕ, ◌+◌, ◌*◌, ◌%◌, ◌^◌, ◌<◌, ◌≤◌, true, false, List, [], ◌∷◌, ◌++◌, refl, sym, ◌∙◌, ap, subst, arith, suc, Some}
 use Rattle.std.specs.Prelude.{None, codes, pos, negsuc}
 use Rattle.rv_inst.specs.declared.instruction.Cond.TheVariants as cond
@@ -48,7 +48,7 @@ are_new b k = record {
   text = numbered_none b k (codes "text") (λ i low some. refl);
 }
 
--- and each is new where it is defined
+-- and each is new when it is defined
 digit_new : (labels : List LabelView) (c : ℕ) → AreNew labels → value_of_label (with_hex labels c) (codes "digit") ≡ None
 unfolding value_of_label
 digit_new labels c h = value_later labels _ (codes "digit") h.digit

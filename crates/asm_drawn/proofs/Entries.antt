@@ -1,4 +1,4 @@
--- A line of a drawn program: its text, its label, and the item that its statement stands for, which is the same at each
+-- A line of a drawn program: its text, its label, and the item that its statement denotes, which is the same at each
 -- address.
 use Rattle.std.proofs.Common.{◌≡◌, ℕ, ◌<◌, Bool, true, false, List, [], ◌∷◌, ◌++◌, length, take, refl, ◌∙◌, ap, arith, Ok, map}
 use Rattle.std.specs.Prelude.{Option, ◌&&◌, ◌==◌}
@@ -58,7 +58,7 @@ uncommented quote (byte ∷ text) h =
 whole_line : (text : List ℕ) → IsPlain text → take (comment_at Outside text) text ≡ text
 whole_line text h = rw (uncommented Outside text h) (take-length text)
 
--- a line without blanks around it
+-- a line without surrounding blanks
 pub said-bare : (text : List ℕ) → IsPlain text → IsBare text → said text ≡ text
 unfolding said
 said-bare text h bare = ap trimmed (whole_line text h) ∙ trimmed-bare text bare

@@ -50,7 +50,7 @@ statement_lines number i =
     ∷ indented (instruction_text choice.operation choice (branch_label number i)) (stands_for choice.operation choice (branch_label number i))
     ∷ []
 
--- where a statement may branch to: two instructions further, or one, at the end
+-- where a statement may branch to: two instructions further, or one if it is at the end
 abbrev Lands : ℕ → ℕ → Type 0
 Lands number a =
     ((branch_label number (suc a) ≡ suc (a + 2)) × (a + 2 ≤ number)) ⊎ ((branch_label number (suc a) ≡ suc (a + 1)) × (a + 1 ≤ number))

@@ -1,4 +1,4 @@
--- The lines of a text that is made of lines, each of printable bytes and without `#`.
+-- The lines of a text that consists of lines of printable bytes without `#`.
 use Rattle.std.proofs.Common.{◌≡◌, ℕ, ◌-◌, ◌<◌, Bool, true, false, List, [], ◌∷◌, ◌++◌, length, get_or, drop, refl, sym, ◌∙◌, ap, arith, suc, zero, All, append_assoc}
 use Rattle.std.specs.Prelude.{not, ◌&&◌, ◌==◌, nat_lt, nat_eq}
 use Rattle.std.specs.List.{list_all, slice_split}
@@ -70,7 +70,7 @@ before_others : (piece : List ℕ) (pieces : List (List ℕ)) → 0 < length pie
 before_others piece [] h = absurd (omega arith)
 before_others piece (next ∷ pieces) h = refl
 
--- the first line is taken off
+-- the first line is split off
 pub first_line : (text rest : List ℕ) → IsPlain text → text_lines (text ++ 10 ∷ rest) ≡ text ∷ text_lines rest
 unfolding text_lines
 first_line text rest h =

@@ -1,4 +1,4 @@
--- What the statements of a drawn program stand for: each form of operands, whatever registers and numbers were drawn.
+-- The meaning of the statements of a drawn program: each form of operands, whatever registers and numbers were drawn.
 use Rattle.std.proofs.Common.{◌≡◌, ℕ, ◌^◌, true, List, [], ◌∷◌, ◌++◌, refl, ◌∙◌, ap, Some, Ok}
 use Rattle.std.specs.Prelude.{None, ℤ, Result}
 use Rattle.std.specs.Fmt.{signed_decimal}

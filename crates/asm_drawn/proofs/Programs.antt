@@ -56,7 +56,7 @@ total_short (e ∷ es) h =
     let rest = total_short es h.1 in
     omega arith
 
--- how many bytes they have
+-- the number of their bytes
 abbrev opening_size : ℕ → ℕ
 opening_size x = total (opening_code x)
 
@@ -81,7 +81,7 @@ opening_pieces values x h = (
   ),
 )
 
--- all labels, where the instructions before the statements have b bytes
+-- all labels, when the instructions before the statements have b bytes
 abbrev all_labels : ℕ → ℕ → List LabelView
 all_labels b number = with_text (labels_before b (suc number)) (b + 4 * number)
 
@@ -130,7 +130,7 @@ has_export values pc e = record {
   placed = λ labels same. let found : value_of_label labels (codes "_start") ≡ Some 0x10000 = same (codes "_start") ∙ e in rw found refl;
 }
 
--- both passes over the whole program
+-- both passes through the whole program
 abbrev size_before : ℕ → ℕ
 size_before number = opening_size number
 

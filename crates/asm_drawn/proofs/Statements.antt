@@ -1,4 +1,4 @@
--- What the statements that are drawn stand for.
+-- The meaning of the statements that are drawn.
 use Rattle.std.proofs.Common.{◌≡◌, ℕ, ◌*◌, ◌^◌, ◌<◌, true, List, [], ◌∷◌, ◌++◌, refl, sym, ◌∙◌, ap, subst, arith, Ok, append_assoc, append-nil, lit<}
 use Rattle.std.specs.Prelude.{None, codes, decimal, pos}
 use Rattle.std.specs.Char.{digit_value}
@@ -193,7 +193,7 @@ blt_entry choice i c small named =
     reads.bare (record { label = refl; statement = refl })
     (λ pc. reads.meaning pc ∙ (rw (branch_read cond.Lt choice.first choice.second (label_text i) c.first c.second (label_solid i small)) refl))
 
--- what each statement stands for
+-- the meaning of each statement
 abbrev pub stands_for : Operation → Choice → ℕ → SourceItem
 stands_for Add choice i = Single (instr.Op regop.Add choice.first choice.second choice.third)
 stands_for Sub choice i = Single (instr.Op regop.Sub choice.first choice.second choice.third)
@@ -225,7 +225,7 @@ as_drawn_word name x n item h =
     ap (λ (l : List ℕ). x ++ codes ", " ++ decimal n ++ l) base_is ∙ word_is x (decimal n) (40 ∷ (register_text 7 ++ 41 ∷ [])) in
     subst (λ (l : List ℕ). IsEntry (indented (name ++ 32 ∷ l) item)) (sym same) h
 
--- each statement is read as that
+-- each statement is read as its meaning
 pub statement_entry : (operation : Operation) (choice : Choice) (i : ℕ) → IsChoice choice → i < 2 ^ 64
     → IsEntry (indented (instruction_text operation choice i) (stands_for operation choice i))
 unfolding instruction_text directive_named pseudo_named label_in statement_in has_label is_name_start is_name_byte

@@ -17,7 +17,7 @@ use Rattle.asm_drawn.proofs.Fixed.{text_line, export_line, start_line, buffer_li
 use Rattle.asm_drawn.proofs.Codes.{gathering_code, converting_code, writing_code}
 use Rattle.asm_drawn.proofs.Goings.{statement_lines}
 
--- the lines one after the other
+-- the lines, one after another
 abbrev pub joined : List Entry → List ℕ
 joined es = flat_map (λ e. line e.text) es
 

@@ -22,7 +22,7 @@ unfolding value_of_label
 value_by true label front back name ih e = rw e refl
 value_by false label front back name ih e = rw e ih
 
--- a label that is defined keeps its value, and one that is not has that of the labels that follow
+-- a label that is defined keeps its value, and any other has its value among the labels that follow
 values-append : (front back : List LabelView) (name : List ℕ)
     → value_of_label (front ++ back) name ≡ first_of (value_of_label front name) (value_of_label back name)
 unfolding value_of_label
@@ -63,7 +63,7 @@ value-exported [] exports name = refl
 value-exported (label ∷ labels) exports name =
     exported_by (bytes_eq label.name name) label labels exports name (value-exported labels exports name) refl
 
--- the label of the i-th statement, where the statements begin b bytes after the start of the text
+-- the label of the i-th statement, when the statements begin b bytes after the start of the text
 abbrev pub numbered_label : ℕ → ℕ → LabelView
 numbered_label b k = record { name = label_text (suc k); value = 0x10000 + (b + 4 * k); in_text = true; global = false }
 
@@ -85,7 +85,7 @@ numbered_none b (suc k) name h =
     let rest = numbered_none b k name (λ i low some. h i (omega arith) some) in
     value_later (numbered_labels b k) (numbered_label b k ∷ []) name rest ∙ rw this refl
 
--- two numbers have two texts
+-- different numbers have different texts
 decimal_injective : (i j : ℕ) → i < 2 ^ 64 → j < 2 ^ 64 → decimal i ≡ decimal j → i ≡ j
 decimal_injective i j small low e =
     sym (decimal_is_IsNumeral i small).1 ∙ ap (λ (l : List ℕ). digits_value 10 l) e ∙ (decimal_is_IsNumeral j low).1
@@ -94,7 +94,7 @@ differs_by : (b : Bool) (i j : ℕ) → i < j → j < 2 ^ 64 → (b ≡ true →
 differs_by true i j less small h = let e = decimal_injective i j (omega arith) small (h refl) in absurd (omega arith)
 differs_by false i j less small h = refl
 
--- two labels differ in their names
+-- different labels have different names
 pub labels_differ : (i j : ℕ) → i < j → j < 2 ^ 64 → bytes_eq (label_text i) (label_text j) ≡ false
 labels_differ i j less small =
     differs_by (bytes_eq (decimal i) (decimal j)) i j less small ((bytes_eq-Decides (decimal i) (decimal j)).0)

@@ -19,7 +19,7 @@ Values = List ℕ → Option ℕ
 abbrev pub HaveValues : Values → List LabelView → Type 0
 HaveValues values labels = (name : List ℕ) → value_of_label labels name ≡ values name
 
--- an item places pieces, whatever else is known of the labels
+-- an item places pieces, whatever else is known about the labels
 pub record HasPieces (values : Values) (pc : ℕ) (item : SourceItem) : Type 0 where
   pub pieces : List Piece
   pub placed : (labels : List LabelView) → HaveValues values labels → pieces_of labels pc item ≡ Ok pieces
@@ -29,12 +29,12 @@ pub record Drafts (es : List Entry) (place : SectionPlace) (labels final : List 
   pub end : SectionPlace
   pub passes : (above : ℕ) → draft_from above (record { place = place; labels = labels }) (texts_of es) ≡ Ok (record { place = end; labels = final })
 
--- the second pass from here is refused nothing
+-- the second pass from here refuses nothing
 pub record Fills (es : List Entry) (above : ℕ) (sections : Sections) : Type 0 where
   pub end : Sections
   pub passes : sections_from above sections (texts_of es) ≡ Ok end
 
--- both, where the labels that the first pass ends with have these values
+-- both, if the labels that the first pass ends with have these values
 pub record Goes (values : Values) (final : List LabelView) (es : List Entry) (place : SectionPlace) (labels : List LabelView) : Type 0 where
   pub first : Drafts es place labels final
   pub second : (above : ℕ) (sections : Sections) → sections.place ≡ place → HaveValues values sections.labels → Fills es above sections
@@ -45,7 +45,7 @@ goes_end values final place = record {
   second = λ above sections at same. record { end = sections; passes = refl };
 }
 
--- what a line stands for where its item fits
+-- the meaning of a line, if its item fits
 abbrev pub IsItem : SectionPlace → Entry → Type 0
 IsItem place e = item_at place (statement_in (said e.text)) ≡ Ok e.item
 

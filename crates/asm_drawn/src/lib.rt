@@ -1,4 +1,4 @@
-//! A drawn program is always one that the assembler accepts.
+//! The assembler accepts every drawn program.
 #![tactic(auto)]
 
 pub mod laws;

@@ -1,4 +1,4 @@
--- The pieces of placed items are one after the other in their sections.
+-- The pieces of placed items are one after another in their sections.
 use Rattle.std.proofs.Common.{◌≡◌, ℕ, ◌+◌, ◌≤◌, Bool, true, false, List, [], ◌∷◌, ◌++◌, length, take, drop, refl, sym, ◌∙◌, ap, subst, cond, arith, append_assoc, append-nil, length-append}
 use Rattle.std.proofs.Math.Seq.{drop-append_seam, take-append_seam}
 use Rattle.std.specs.Prelude.{Ok}
@@ -58,7 +58,8 @@ middle front ps after bytes at h e =
     ap (λ (l : List ℕ). take (pieces_size ps) l) dropped ∙ ap (λ (n : ℕ). take n (inner.front ++ inner.back)) long ∙ take-append_seam inner.front inner.back in
     subst (λ (l : List ℕ). Spells ps l) (sym taken) inner.first
 
--- the contents of the sections before an item: its pieces, as many bytes of them as the position says
+-- the contents of the sections before an item: the pieces of the earlier items, which have as many bytes as the
+-- position says
 pub record AreAbove (place : SectionPlace) (text_front data_front : List Piece) : Type 0 where
   pub text : pieces_size text_front ≡ place.text_len
   pub data_section : pieces_size data_front ≡ place.data_len
@@ -98,7 +99,7 @@ above-next labels line p text_front data_front place s a =
       );
     }
 
--- an item is placed there
+-- an item is in its place
 there-by : (b : Bool) (object : Object) (p : Placed) (text_front text_after data_front data_after : List Piece) → p.place.in_text ≡ b
     → Spells (text_front ++ (cond b p.pieces [] ++ text_after)) object.text_bytes
     → Spells (data_front ++ (cond b [] p.pieces ++ data_after)) object.data_bytes
@@ -106,7 +107,7 @@ there-by : (b : Bool) (object : Object) (p : Placed) (text_front text_after data
 there-by true object p tf tb df db e t d a = rw e (middle tf p.pieces tb object.text_bytes p.place.text_len t a.text)
 there-by false object p tf tb df db e t d a = rw e (middle df p.pieces db object.data_bytes p.place.data_len d a.data_section)
 
--- so are all
+-- all items are in their places
 pub all-there : (object : Object) (labels : List LabelView) (place end : SectionPlace) (lines : List (List ℕ)) (items : List Placed)
     (text_front data_front : List Piece)
     → AllStand labels place lines items end → AreAbove place text_front data_front

@@ -1,4 +1,4 @@
--- The result of the two passes over the lines is the program of the lines.
+-- The result of the two passes through the lines is the program of the lines.
 use Rattle.std.proofs.Common.{◌≡◌, ℕ, ◌+◌, ◌<◌, ◌≤◌, Bool, true, false, List, [], ◌∷◌, ◌++◌, length, map, refl, sym, ◌∙◌, ap, subst, cond, arith, append_assoc, append-nil, Option, Some, None}
 use Rattle.std.proofs.lemmas.List.{map-append}
 use Rattle.std.specs.Prelude.{Result, Ok, Err, is_some, nat_lt}
@@ -69,7 +69,7 @@ items-of above s t (line ∷ lines) e =
       labels = labels;
     }
 
--- the label of a line is put after the others
+-- the label of a line is appended to the others
 labelled-by : (twice : Bool) (more next : List LabelView) (answer : Result (List LabelView) AsmKind)
     → answer ≡ cond twice (Err LabelTwice) (Ok more) → answer ≡ Ok next → next ≡ more
 labelled-by true more next answer e h = absurd (cc)

@@ -107,7 +107,7 @@ near-same : (a b : List LabelView) (pc : ℕ) (jump : Jump) (label : List ℕ) �
 unfolding near_instr
 near-same a b pc jump label h = rw (value-same a b label h) refl
 
--- so an item places the same
+-- so an item places the same pieces
 pub pieces-same : (a b : List LabelView) (pc : ℕ) (item : SourceItem) → SameValues a b → pieces_of a pc item ≡ pieces_of b pc item
 unfolding pieces_of
 pieces-same a b pc Nothing h = refl

@@ -1,4 +1,4 @@
--- The program that lines of assembly stand for: a list of placed items (GNU as, "Sections and Relocation"; RISC-V
+-- The program that lines of assembly represent: a list of placed items (GNU as, "Sections and Relocation"; RISC-V
 -- Assembly Programmer's Manual).
 use Rattle.std.specs.Prelude.{◌≡◌, ℕ, Bool, false, List, [], ◌∷◌, ◌++◌, length, take, drop, map, Option, Some, None, Result, Ok, if◌then◌else◌}
 use Rattle.rv_asm.specs.declared.object.Object.{Object}
@@ -17,13 +17,13 @@ pub record Placed : Type 0 where
   pub item : SourceItem
   pub pieces : List Piece
 
--- given the labels' values, the line stands for this item at the position
+-- given the labels' values, the line denotes this item at the position
 pub record LineStandsFor (labels : List LabelView) (here : SectionPlace) (line : List ℕ) (placed : Placed) : Type 0 where
   pub place : placed.place ≡ here
   pub item : item_at here (statement_in (said line)) ≡ Ok placed.item
   pub pieces : pieces_of labels (section_address here) placed.item ≡ Ok placed.pieces
 
--- each line stands for its item, which is placed after the item before it; the last item ends at this position
+-- each line denotes its item, which is placed after the item before it; the last item ends at this position
 abbrev pub AllStand : List LabelView → SectionPlace → List (List ℕ) → List Placed → SectionPlace → Type 0
 AllStand labels place [] [] end = place ≡ end
 AllStand labels place [] (p ∷ ps) end = ⊥
@@ -35,8 +35,8 @@ AllStand labels place (line ∷ lines) (p ∷ ps) end =
 abbrev pub placed_section : Object → SectionPlace → List ℕ
 placed_section object place = if place.in_text then object.text_bytes else object.data_bytes
 
--- the item's instructions and bytes are in its section where it is placed: a word there decodes to its instruction, and
--- bytes are unchanged
+-- the item's instructions and bytes are in its section at the item's position: a word there decodes to its instruction,
+-- and bytes are unchanged
 abbrev pub IsThere : Object → Placed → Type 0
 IsThere object p =
     Spells p.pieces (take (pieces_size p.pieces) (drop (length_at p.place) (placed_section object p.place)))

@@ -1,4 +1,4 @@
-//! What an assembled program is: each line of the source stands for instructions or bytes at its address.
+//! What an assembled program is: each line of the source denotes instructions or bytes at its address.
 #![tactic(auto)]
 
 pub mod laws;

@@ -36,7 +36,7 @@ from_value value zero xs h = λ k d within.
 from_value value (suc i) [] h = λ k d within. absurd (omega arith)
 from_value value (suc i) (x ∷ xs) h = from_value value i xs (λ k d le within. h (suc k) d (omega arith) (omega arith))
 
--- no symbol of a greater value has the value
+-- no symbol of a larger value has the value
 none_of : (value : ℕ) (xs : List LazySymbol) → AllWithin (λ x. leb x.value value ≡ false) xs 0 (length xs) → filter (has_value value) xs ≡ []
 none_of value [] h = refl
 none_of value (x ∷ xs) h =
@@ -44,7 +44,7 @@ none_of value (x ∷ xs) h =
     let apart : (x.value == value) ≡ false = grind (arith, nat_tests) in
     rw apart (none_of value xs (λ k d le within. h (suc k) d (omega arith) (omega arith)))
 
--- of symbols that have no lower values those up to the value are those of it
+-- of symbols that have no lower values, those up to the value are those with it
 pub front_is : (value i : ℕ) (xs : List LazySymbol) → All (λ x. value ≤ x.value) xs
     → AllWithin (λ x. leb x.value value ≡ true) xs 0 i → AllWithin (λ x. leb x.value value ≡ false) xs i (length xs)
     → take i xs ≡ filter (has_value value) xs
@@ -59,7 +59,7 @@ front_is value (suc i) (x ∷ xs) least low high =
     (λ k d le within. high (suc k) d (omega arith) (omega arith)) in
     rw same (ap (λ (l : List LazySymbol). x ∷ l) rest)
 
--- a symbol of another value has no line
+-- a symbol with another value has no line
 one_line : (pc : ℕ) (x : LazySymbol) (kept xs : List LazySymbol) (t : Bool) → has_value pc x ≡ t
     → label_lines (map shown_lazy kept) pc ≡ label_lines (map shown_lazy xs) pc
     → label_lines (map shown_lazy (cond t (x ∷ kept) kept)) pc ≡ symbol_line pc (shown_lazy x) ++ label_lines (map shown_lazy xs) pc
@@ -67,7 +67,7 @@ unfolding symbol_line
 one_line pc x kept xs true e h = ap (λ (l : List ℕ). symbol_line pc (shown_lazy x) ++ l) h
 one_line pc x kept xs false e h = rw e h
 
--- the symbols of a value have the lines at it
+-- the symbols with a value have the lines at it
 pub lines_of_value : (pc : ℕ) (xs : List LazySymbol)
     → label_lines (map shown_lazy (filter (has_value pc) xs)) pc ≡ label_lines (map shown_lazy xs) pc
 lines_of_value pc [] = refl
@@ -87,12 +87,12 @@ unfolding symbol_line
 named_line pc x kept xs true e h = ap (λ (l : List ℕ). symbol_line pc x ++ l) h
 named_line pc x kept xs false e h = rw (e, both_false (x.value == pc)) h
 
--- those that have one have the lines
+-- the symbols that have a name have the lines
 pub lines_of_named : (pc : ℕ) (xs : List NamedSymbol) → label_lines (filter has_name xs) pc ≡ label_lines xs pc
 lines_of_named pc [] = refl
 lines_of_named pc (x ∷ xs) = named_line pc x (filter has_name xs) xs (has_name x) refl (lines_of_named pc xs)
 
--- numbers tie where they are equal
+-- numbers tie if they are equal
 tie : (a b : ℕ) → (not (is_lt (nat_cmp a b)) && not (is_lt (nat_cmp b a))) ≡ (b == a)
 tie a b = grind (arith, nat_tests)
 
@@ -104,7 +104,7 @@ same_filter p q same (x ∷ xs) = rw (same x, same_filter p q same xs) refl
 abbrev is_below : LazySymbol → LazySymbol → Bool
 is_below x y = is_lt (nat_cmp x.value y.value)
 
--- the symbols of a value are in the same order as before
+-- the symbols with a value are in the same order as before
 stays : (xs ys : List LazySymbol) → IsStableByKey (λ (x : LazySymbol). x.value) nat_cmp xs ys → (x : LazySymbol)
     → filter (has_value x.value) ys ≡ filter (has_value x.value) xs
 stays xs ys stable x =
@@ -128,7 +128,7 @@ pub lines_stay : (xs ys : List LazySymbol) → IsPermutation xs ys → IsStableB
     → HaveLines (map shown_lazy xs) (map shown_lazy ys)
 lines_stay xs ys moved stable = record { at = line_stays xs ys (length_permutation xs ys moved) stable }
 
--- symbols have the lines of those that they were taken from because they have a name, and so has each order of them
+-- the symbols with a name have the same lines as all symbols, and so has each reordering of them
 pub lines_ordered : (symbols named labels : List NamedSymbol) → named ≡ filter has_name symbols → HaveLines named labels → HaveLines symbols labels
 lines_ordered symbols named labels e lines = record {
   at = λ pc. lines.at pc ∙ ap (λ (l : List NamedSymbol). label_lines l pc) e ∙ lines_of_named pc symbols;

@@ -10,7 +10,7 @@ use Rattle.asm_listing.specs.Labels.{HaveLines}
 use Rattle.asm_listing.specs.Lines.{label_lines, word_line, listed_at, listed_from, skipped, IsFirstWord}
 use Rattle.asm_listing.specs.Listing.{segment_lines}
 
--- no word is at an address that 4 does not divide
+-- no word is at an address that is not a multiple of 4
 pub unaligned : (symbols : List NamedSymbol) (pc : ℕ) (bytes : List ℕ) → 1 ≤ pc % 4 → listed_at symbols pc bytes ≡ []
 unfolding listed_at
 unaligned symbols pc bytes h = let no : (pc % 4 == 0) ≡ false = grind (arith, nat_tests) in rw no refl
@@ -19,7 +19,7 @@ both-false : (a : Bool) → (a && false) ≡ false
 both-false true = refl
 both-false false = refl
 
--- nor in fewer than four bytes
+-- and none is in fewer than four bytes
 pub too-few : (symbols : List NamedSymbol) (pc : ℕ) (bytes : List ℕ) → length bytes ≤ 3 → listed_at symbols pc bytes ≡ []
 unfolding listed_at
 too-few symbols pc bytes h = let no : nat_le 4 (length bytes) ≡ false = grind (arith, nat_tests) in rw (no, both-false (pc % 4 == 0)) refl
@@ -38,7 +38,7 @@ same-address pc n = omega arith
 below : (pc : ℕ) → pc % 2 ^ 32 < 2 ^ 32
 below pc = omega arith
 
--- the bytes before the first address that 4 divides have no line
+-- the bytes before the first address that is a multiple of 4 have no line
 pub skip-by : (n : ℕ) (symbols : List NamedSymbol) (pc : ℕ) (bytes : List ℕ) → n ≡ skipped pc → pc < 2 ^ 32
     → listed_from symbols pc bytes ≡ listed_from symbols ((pc + n) % 2 ^ 32) (drop n bytes)
 skip-by zero symbols pc bytes e h = let same : pc ≡ (pc + 0) % 2 ^ 32 = omega arith in ap (λ (at : ℕ). listed_from symbols at bytes) same
@@ -65,7 +65,7 @@ others symbols pc b c d rest h k =
     let at : ((pc + 1) % 2 ^ 32 + 3) % 2 ^ 32 ≡ (pc + 4) % 2 ^ 32 = omega arith in
     skip-by 3 symbols ((pc + 1) % 2 ^ 32) (b ∷ c ∷ d ∷ rest) (sym three) (below (pc + 1)) ∙ ap (λ (n : ℕ). listed_from symbols n rest) at
 
--- a word at an address that 4 divides
+-- a word at an address that is a multiple of 4
 pub word-first : (symbols : List NamedSymbol) (pc a b c d : ℕ) (rest : List ℕ) → pc % 4 ≡ 0 → pc < 2 ^ 32
     → listed_from symbols pc (a ∷ b ∷ c ∷ d ∷ rest)
     ≡ (label_lines symbols pc ++ word_line pc (from_le_bytes w32 (a ∷ b ∷ c ∷ d ∷ []))) ++ listed_from symbols ((pc + 4) % 2 ^ 32) rest
@@ -78,7 +78,7 @@ word-first symbols pc a b c d rest k h =
     ap (λ (l : List ℕ). l ++ listed_from symbols ((pc + 1) % 2 ^ 32) (b ∷ c ∷ d ∷ rest)) first
     ∙ ap (λ (l : List ℕ). (label_lines symbols pc ++ word_line pc (from_le_bytes w32 (a ∷ b ∷ c ∷ d ∷ []))) ++ l) (others symbols pc b c d rest h k)
 
--- the same of any bytes of which there are at least four
+-- the same for any bytes, if there are at least four
 pub word-next : (symbols : List NamedSymbol) (pc next word : ℕ) (bytes rest : List ℕ) → IsFirstWord bytes word rest
     → next ≡ (pc + 4) % 2 ^ 32 → pc % 4 ≡ 0 → pc < 2 ^ 32
     → listed_from symbols pc bytes ≡ (label_lines symbols pc ++ word_line pc word) ++ listed_from symbols next rest
@@ -95,7 +95,7 @@ pub ruleset words = (no-lines)
 
 pub ruleset walked = (skip, skipped-aligned)
 
--- labels that have the lines of the symbols make the same lines of words
+-- labels that have the lines of the symbols give the same lines of words
 lines-same : (symbols labels : List NamedSymbol) → HaveLines symbols labels → (pc : ℕ) (bytes : List ℕ) →
     listed_from labels pc bytes ≡ listed_from symbols pc bytes
 unfolding listed_at

@@ -13,7 +13,7 @@ Ascend symbols = IsNonDecreasingBy (λ (symbol : LazySymbol). symbol.value) symb
 abbrev pub has_value : ℕ → LazySymbol → Bool
 has_value value symbol = symbol.value == value
 
--- these are the symbols of this value, of all symbols of a file
+-- these are the symbols with this value, of all symbols of a file
 pub record AreOfValue (value : ℕ) (symbols : List LazySymbol) : Type 0 where
   pub all : List LazySymbol
   pub are : symbols ≡ filter (has_value value) all

@@ -11,7 +11,7 @@ use Rattle.elf_view.specs.declared.symbols.LazySymbol.{LazySymbol}
 use Rattle.texts.specs.Hexadecimal.{hex8}
 use Rattle.texts.specs.Lines.{newline, line}
 
--- the text of an instruction at an address, or the word itself where it is not an instruction
+-- the text of an instruction at an address, or the word itself if it is not an instruction
 unfoldable pub word_text : ℕ → ℕ → Option Instr → List ℕ
 word_text pc word (Some i) = text_of i pc
 word_text pc word None = codes ".word 0x" ++ hex8 word
@@ -33,7 +33,7 @@ symbol_line pc symbol = if is_label_at pc symbol then symbol.name ++ line (codes
 abbrev pub label_lines : List NamedSymbol → ℕ → List ℕ
 label_lines symbols pc = flat_map (symbol_line pc) symbols
 
--- a word and its labels, where the address is a multiple of 4 and the bytes from there on are at least a word
+-- a word and its labels, if the address is a multiple of 4 and there are at least four bytes from there on
 unfoldable pub listed_at : List NamedSymbol → ℕ → List ℕ → List ℕ
 listed_at symbols pc bytes =
     if (pc % 4 == 0) && nat_le 4 (length bytes)
@@ -45,15 +45,15 @@ listed_from symbols pc [] = []
 listed_from symbols pc (byte ∷ bytes) =
     listed_at symbols pc (byte ∷ bytes) ++ listed_from symbols ((pc + 1) % 2 ^ 32) bytes
 
--- the same, with symbols whose names are looked up only when they are written
+-- the same with symbols whose names are looked up only when they are written
 abbrev pub labelled_lines : List LazySymbol → ℕ → List ℕ → List ℕ
 labelled_lines symbols pc bytes = listed_from (map shown_lazy symbols) pc bytes
 
--- how many bytes come before the next address that 4 divides
+-- how many bytes come before the next address that is a multiple of 4
 abbrev pub skipped : ℕ → ℕ
 skipped pc = (4 - pc % 4) % 4
 
--- bytes begin with a word, after which these come
+-- bytes begin with a word, followed by these
 pub record IsFirstWord (bytes : List ℕ) (word : ℕ) (after : List ℕ) : Type 0 where
   pub enough : 4 ≤ length bytes
   pub word_is : word ≡ from_le_bytes w32 (take 4 bytes)

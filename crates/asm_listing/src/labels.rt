@@ -18,7 +18,7 @@ fn is_label_at(symbol: &LazySymbol, pc: u32) -> bool
     symbol.value == pc && symbol.is_named()
 }
 
-/// Writes the line of a symbol, where it is a label at the address.
+/// Writes the line of a symbol, if the symbol is a label at the address.
 fn put_label<K: Sink>(symbol: &LazySymbol, pc: u32, out: &mut K) -> Result<(), Failed>
     ensures ok { OnOk result (Writes (K.written out.old) (K.written out.new) (symbol_line pc (shown_lazy symbol.now))) }
     ensures err { OnErr result (WritesFront (K.written out.old) (K.written out.new) (symbol_line pc (shown_lazy symbol.now))) }
@@ -42,7 +42,7 @@ fn symbols_from<'a, 'b>(symbols: &'a [LazySymbol<'b>], value: u32) -> &'a [LazyS
     rest
 }
 
-/// The symbols of a value.
+/// The symbols with a value.
 fn symbols_of_value<'a, 'b>(symbols: &'a [LazySymbol<'b>], value: u32) -> &'a [LazySymbol<'b>]
     requires { Ascend symbols.now }
     ensures { result.now ≡ filter (has_value value) symbols.now }
@@ -53,8 +53,8 @@ fn symbols_of_value<'a, 'b>(symbols: &'a [LazySymbol<'b>], value: u32) -> &'a [L
     same
 }
 
-/// Writes the lines of symbols that are labels at an address. They are the symbols of that value and no others: among a
-/// million symbols a walk past all of them for each word would take too long.
+/// Writes the lines of symbols that are labels at an address. They are all the symbols with that value and no others:
+/// among a million symbols, a walk past all of them for each word would take too long.
 #[tactic(auto, using(cf_io::proofs::Owing::owes))]
 fn put_each<K: Sink>(symbols: &[LazySymbol], pc: u32, out: &mut K) -> Result<(), Failed>
     requires { AreOfValue pc symbols.now }

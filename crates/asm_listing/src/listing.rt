@@ -20,16 +20,16 @@ use std::alloc::{AllocError, Global};
 /// The address of a flat image.
 const FLAT_BASE: u32 = 0x1_0000;
 
-/// Why a listing was not written whole.
+/// Why a listing was not written completely.
 pub enum ListingErr {
-    /// There was no memory to sort the symbols. Nothing was written.
+    /// There was not enough memory to sort the symbols. Nothing was written.
     NoMemory,
 
     /// The output failed. A prefix of the listing was written.
     Failed,
 }
 
-/// Writes the lines of a segment, where it is executable.
+/// Writes the lines of a segment, if it is executable.
 fn put_segment<K: Sink>(
     symbols: &[LazySymbol],
     segment: &Segment,
@@ -64,9 +64,9 @@ fn put_segments<K: Sink>(symbols: &[LazySymbol], elf: &Elf, out: &mut K) -> Resu
     Ok(())
 }
 
-/// Writes the listing of an ELF file: of each executable segment the words at addresses that 4 divides, each on a line
-/// after those of the labels there. First the symbols are sorted, which may run out of memory before anything is
-/// written.
+/// Writes the listing of an ELF file: for each executable segment the words at addresses that are multiples of 4, each
+/// on a line after those of the labels there. First the symbols are sorted, which may run out of memory before anything
+/// is written.
 #[tactic(auto, using(crate::proofs::Walked::listings), unfolding(crate::specs::Listing::elf_listing))]
 pub fn put_elf_listing<K: Sink>(alloc: Global, elf: &Elf, out: &mut K) -> Result<(), ListingErr>
     ensures ok { OnOk result (Writes (K.written out.old) (K.written out.new) (elf_listing elf.now)) }

@@ -7,7 +7,7 @@ ghost use Rattle.asm_listing.specs.Labels.{Ascend, HaveLines};
 use elf_view::{Elf, LazySymbol};
 use std::alloc::{AllocError, Global};
 
-/// The symbols of a file that have a name, in their order there.
+/// The symbols of a file that have a name, in their order in the file.
 fn named_symbols<'a>(alloc: Global, elf: &Elf<'a>) -> Result<Vec<LazySymbol<'a>>, AllocError>
     ensures { IfOk result (λ symbols. map shown_lazy symbols.items ≡ filter has_name (symbols_of elf.now)) }
 {
@@ -29,9 +29,9 @@ fn sort_by_value(symbols: &mut Vec<LazySymbol>) -> Result<(), AllocError>
     Ok(())
 }
 
-/// The symbols of a file that may be labels, in the order of their values. Those of one value are in their order in the
-/// file. A program may have a million symbols and a million words, so a search of all symbols for every word would take
-/// too long.
+/// The symbols of a file that may be labels, in the order of their values. Those with the same value are in their order
+/// in the file. A program may have a million symbols and a million words, so a search of all symbols for every word
+/// would take too long.
 #[tactic(auto, using(crate::proofs::Values::ordered))]
 pub fn ordered_symbols<'a>(alloc: Global, elf: &Elf<'a>) -> Result<Vec<LazySymbol<'a>>, AllocError>
     ensures ascend { IfOk result (λ symbols. Ascend symbols.items) }

@@ -29,7 +29,7 @@ fn front_page(pc: u32, word: u32) -> Page
     page
 }
 
-/// The word itself, where it is not an instruction.
+/// The word itself, if it is not an instruction.
 fn raw_page(word: u32) -> Page
     ensures { result ≡ codes ".word 0x" ++ hex8 word }
 {
@@ -39,8 +39,8 @@ fn raw_page(word: u32) -> Page
     page
 }
 
-/// Writes the line of a word at an address: both, and the text of the instruction, or else the word. After `Failed` a
-/// prefix of the line was written.
+/// Writes the line of a word at an address: both, and the text of the instruction, or otherwise the word. After
+/// `Failed` a prefix of the line was written.
 #[tactic(auto, unfolding(crate::specs::Lines::word_line, crate::specs::Lines::word_text))]
 pub fn put_line<K: Sink>(pc: u32, word: u32, out: &mut K) -> Result<(), Failed>
     ensures ok { OnOk result (Writes (K.written out.old) (K.written out.new) (word_line pc word)) }
@@ -74,7 +74,7 @@ fn put_word<K: Sink>(symbols: &[LazySymbol], pc: u32, word: u32, out: &mut K) ->
     put_line(pc, word, out)
 }
 
-/// The first address from here on that 4 divides, and the bytes from there on.
+/// The first address from here on that is a multiple of 4, and the bytes from there on.
 fn aligned(pc: u32, bytes: &[u8]) -> (u32, &[u8])
     ensures pc { result.0 ≡ (pc + skipped pc) % 2 ^ 32 }
     ensures bytes { result.1.now ≡ drop (skipped pc) bytes.now }
@@ -95,7 +95,7 @@ fn first_word(bytes: &[u8]) -> Option<(u32, &[u8])>
     }
 }
 
-/// Writes the lines of words from an address on that 4 divides.
+/// Writes the lines of words from an address on that is a multiple of 4.
 #[tactic(auto, using(cf_io::proofs::Owing::owes, crate::proofs::Walked::words))]
 fn put_aligned<K: Sink>(
     symbols: &[LazySymbol],

@@ -79,7 +79,7 @@ so-far text start now h =
       groups = ap (take now.seen.agreed) (sym both.0) ∙ sym (put_all_agreed now.seen h.none) ∙ both.1;
     }
 
--- each move has its line, with one more
+-- one more move: each has its line
 are_more : (trace : List Made) (made : Made) → AreReadBack trace → IsReadBack made.move → AreReadBack (trace ++ made ∷ [])
 are_more [] made h k = (k, tt)
 are_more (first ∷ trace) made (h, hs) k = (h, are_more trace made hs k)
@@ -154,7 +154,7 @@ comes-falls text start new agreed h rises =
     let size : length new.seen.text ≡ length text = ap length (so-far text start new h).text_is in
     omega (arith, rises, h.within, size)
 
--- no count is near the greatest
+-- no count is near the maximum
 pub counts-small : (text : List ℕ) (start : RunPlace) (now : AuditRun) → Comes text start now → length text ≤ most_trace
     → (now.place.tally.moves ≤ most_trace) × (now.place.tally.meets ≤ most_trace) × (now.place.tally.kills ≤ most_trace) × (now.place.tally.dead ≤ most_trace)
 counts-small text start now h small =
@@ -171,7 +171,7 @@ moves_counted : (trace : List Made) (tally : Tally) → tally ≡ tally_of trace
 unfolding tally_of
 moves_counted trace tally is = sym (ap (λ (t : Tally). t.moves) is)
 
--- the groups so far are the trace of the run, which leads to any moment to which its moves do
+-- the groups so far are the trace of the run, which leads to each moment that its moves lead to
 pub trace-so-far : (text : List ℕ) (start : RunPlace) (now : AuditRun) (h : Comes text start now) (last : Moment) →
     Leads start.core.plan most_retired start.streams.input (moment_of start.core h.reached.rest) h.reached.trace last
     → IsTrace start.core start.streams.input (take now.seen.agreed text) now.place.tally.moves last

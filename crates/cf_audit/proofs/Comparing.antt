@@ -5,7 +5,7 @@ use Rattle.std.proofs.Math.Seq.{take-add}
 use Rattle.cf_io.specs.Puts.{Puts}
 use Rattle.cf_audit.specs.Compared.{Comparison, IsComparison, HasOther, IsOther, DifferAt, byte_list, put_of, exposed_by_sink}
 
--- the bytes up to an index and the one there
+-- the bytes up to an index, and the byte there
 one_more : (bytes : List ℕ) (same : ℕ) → same ≤ length bytes → take (min (length bytes) (same + 1)) bytes ≡ take same bytes ++ byte_list (slice_get bytes same)
 one_more [] same within = let none : min 0 (same + 1) ≡ zero = omega arith in let start : same ≡ zero = omega arith in rw (none, start) refl
 one_more (x ∷ bytes) zero within = let one : min (suc (length bytes)) (0 + 1) ≡ suc zero = omega arith in rw one refl
@@ -41,7 +41,7 @@ none_other : (other : Option ℕ) → is_some other ≡ false → other ≡ None
 none_other None h = refl
 none_other (Some byte) h = absurd (cc)
 
--- the comparison with which the put begins, by its parts
+-- the comparison before the put, by its parts
 pub taken : {E : Type 0} (text rest bytes : List ℕ) (agreed same faults count : ℕ) (other next : Option ℕ) (old : Comparison)
     → record { text = text; agreed = agreed; other = other; faults = faults } ≡ old → is_some other ≡ false → rest ≡ drop old.agreed old.text
     → 0 < length bytes → same ≤ length bytes → take same rest ≡ take same bytes → next ≡ slice_get bytes same → count ≡ min (length bytes) (same + 1)
@@ -117,7 +117,7 @@ pub has-other : (text : List ℕ) (agreed faults : ℕ) (other : Option ℕ) (se
     → IsComparison (record { text = text; agreed = agreed; other = other; faults = faults }) → is_some other ≡ true → HasOther seen
 has-other text agreed faults other seen is was some = subst HasOther is (other_there text agreed faults other was some)
 
--- one list of raised bytes and what comes after it
+-- a list of raised bytes, and what comes after it
 raised_same : (one other : List ℕ) (put more : List ℕ) → map suc one ++ 0 ∷ put ≡ map suc other ++ 0 ∷ more → (one ≡ other) × (put ≡ more)
 raised_same [] [] put more e = (refl, cc)
 raised_same [] (y ∷ other) put more e = absurd (cc)

@@ -1,4 +1,4 @@
--- Over an input that tells nothing of what it has left: what the moves of an audit found, and that its answer is the only
+-- Over an input whose remaining bytes are unknown: what the moves of an audit found, and that its answer is the only
 -- one for the traces of the runs whose moves find the same.
 use Rattle.std.proofs.Common.{◌≡◌, ℕ, suc, ◌+◌, ◌<◌, ◌≤◌, true, false, List, [], ◌∷◌, ◌++◌, length, Option, Some, None, inl, inr, refl, sym, ap, subst, ◌∙◌, append_assoc, arith}
 use Rattle.std.specs.Prelude.{◌==◌, if◌then◌else◌}
@@ -22,7 +22,7 @@ use Rattle.cf_audit.proofs.Unique.{no-group, not-failing, one-count, one-move, w
 
 -- What the moves of a run found --
 
--- moves find the same by what agrees from their numbers on
+-- two findings that agree from a number on: the moves from that number on find the same
 same_findings : (f g : Findings) (n : ℕ) (plan : Plan) (m : Moment) (trace : List Made) (last : Moment) → ((k : ℕ) → n ≤ k → f k ≡ g k) →
     LeadsFinding f n plan m trace last → LeadsFinding g n plan m trace last
 unfolding LeadsFinding
@@ -73,7 +73,7 @@ found_by plan m n (made ∷ trace) last z (rest, finds, is, h) =
       after = ap found number ∙ sym (finds_later n ((n + 1) + length trace) rest later.found (omega arith)) ∙ later.after;
     }
 
--- the same from a moment with something else left, which no move finds
+-- the same from a moment at which something else is left, if no move finds it
 from_any : (found : Findings) (n : ℕ) (plan : Plan) (m : Moment) (trace : List Made) (last : Moment) (x : List ℕ) → LeadsFinding found n plan m trace last →
     (end : Moment) × LeadsFinding found n plan (record m { rest = x }) trace end × (end ≡ record last { rest = end.rest })
 unfolding LeadsFinding
@@ -103,7 +103,7 @@ trace_found core text n last z t =
 
 -- Where a trace goes wrong --
 
--- a test that fails, by what the next move finds, as over an input with just that left
+-- a test that fails, given what the next move finds: as over an input that has just that left
 record FailsFinding (plan : Plan) (last : Moment) (n : ℕ) (left : List ℕ) (place : ℕ) (kind : TraceKind) (stop : Moment) : Type 0 where
   rest : List ℕ
   at : Moment
@@ -149,9 +149,9 @@ fails_finding plan last n left place (Barred b) stop (mv, begins, barred, at, st
 fails_finding plan last n left place Differs stop (p, at) =
     record { rest = p.is_group.rest; at = stop; fails = (parts_finding plan last n left place stop p, at); state = refl }
 
--- One answer --
+-- The only answer --
 
--- the trace of such a run is that of no such run with another number of moves
+-- no such run with another number of moves has the same trace
 count_finding : (found : Findings) (plan : Plan) (m : Moment) (n : ℕ) (a b : List Made) (last end : Moment) → LeadsFinding found n plan m a last →
     LeadsFinding found n plan m b end → AreReadBack a → AreReadBack b → all_shown show.moves plan n a ≡ all_shown show.moves plan n b → length a ≡ length b
 unfolding LeadsFinding all_shown
@@ -165,7 +165,7 @@ count_finding found plan m n (first ∷ a) (other ∷ b) last end (i, h) (j, k) 
     subst (λ (mv : Move). LeadsFinding found (n + 1) plan (next plan at mv) b end) (sym one.move) k in
     ap suc (count_finding found plan (next plan at first.move) (n + 1) a b last end h right reads tells one.after)
 
--- a text that fails after the groups of some moves is the trace of no such run
+-- a text that fails after the groups of some moves is not the trace of such a run
 none_finding : (found : Findings) (plan : Plan) (m : Moment) (n k : ℕ) (a b : List Made) (last end : Moment) (left : List ℕ) (place : ℕ) (kind : TraceKind)
     (stop : Moment) → k ≡ n + length a → LeadsFinding found n plan m a last → LeadsFinding found n plan m b end → AreReadBack a → AreReadBack b →
     0 < length left → TraceFails plan (Some (found k)) (finding_at found k last) k left place kind stop →

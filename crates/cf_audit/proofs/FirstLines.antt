@@ -107,7 +107,7 @@ one_first (c ∷ a) (d ∷ b) x y e f same =
     let both = one_first a b x y (tail_none c a e) (tail_none d b f) rest in
     (cc, both.1)
 
--- the line of a move by its parts
+-- the line of a move, by its parts
 front_of : (n : ℕ) (mv : Move) (after : List ℕ) → numbered_move n mv ++ after ≡ move_front n ++ (move_line mv ++ 10 ∷ after)
 unfolding numbered_move
 front_of n mv after = append_assoc (move_front n) (move_line mv ++ 10 ∷ []) after ∙ ap (λ (t : List ℕ). move_front n ++ t)
@@ -117,7 +117,8 @@ front_of n mv after = append_assoc (move_front n) (move_line mv ++ 10 ∷ []) af
 line_after : (text rest : List ℕ) (n : ℕ) (mv : Move) → text ≡ move_front n ++ rest → (b : BeginsWithMove text n mv) → rest ≡ move_line mv ++ 10 ∷ b.after
 line_after text rest n mv is b = append_cancel_left (move_front n) rest (move_line mv ++ 10 ∷ b.after) (sym is ∙ b.is ∙ front_of n mv b.after)
 
--- no move's line is first where its prefix does not, where there is no line after that, or where the line names no move
+-- a text does not begin with a move's line if it does not begin with the prefix of that line, if no line follows the
+-- prefix, or if that line names no move
 pub no_front : (text : List ℕ) (n : ℕ) → ((rest : List ℕ) → text ≡ move_front n ++ rest → ⊥) → (mv : Move) → BeginsWithMove text n mv → ⊥
 no_front text n none mv b = none (move_line mv ++ 10 ∷ b.after) (b.is ∙ front_of n mv b.after)
 
@@ -131,7 +132,7 @@ no_move text rest line n is first none mv b =
     let same = one_first line (move_line mv) first.after b.after first.whole (move_line_no mv) (sym first.is ∙ line_after text rest n mv is b) in
     none mv (record { written = same.0; told = b.told })
 
--- a move's line does where the line there names it
+-- it begins with a move's line if that line names the move
 pub one_move : (text rest line : List ℕ) (n : ℕ) (mv : Move) → text ≡ move_front n ++ rest → IsFirstLine rest line → IsMoveLine line mv →
     BeginsWithMove text n mv
 one_move text rest line n mv is first tells = record {
@@ -140,7 +141,7 @@ one_move text rest line n mv is first tells = record {
   is = is ∙ ap (λ (t : List ℕ). move_front n ++ t) (first.is ∙ ap (λ (l : List ℕ). l ++ 10 ∷ first.after) tells.written) ∙ sym (front_of n mv first.after);
 }
 
--- two texts that begin with the lines of moves of one number, and are one, begin with that of one move
+-- two equal texts that begin with lines of moves of the same number begin with the line of the same move
 pub one_told : (n : ℕ) (a b : Move) (x y : List ℕ) → IsReadBack a → IsReadBack b → numbered_move n a ++ x ≡ numbered_move n b ++ y → (a ≡ b) × (x ≡ y)
 one_told n a b x y reads tells same =
     let text : List ℕ = numbered_move n b ++ y in
@@ -151,7 +152,7 @@ one_told n a b x y reads tells same =
     let moves : Ok a ≡ Ok b = sym reads ∙ ap move_in both.0 ∙ tells in
     (cc, both.1)
 
--- the first line by the index of the first line feed
+-- the first line, by the index of the first line feed
 feed_here : (byte : ℕ) → is_line_feed byte ≡ true → byte ≡ 10
 feed_here byte e = grind (arith, nat_tests)
 
@@ -198,7 +199,7 @@ first_there text end is low = rw is (first_at text (rw is at low))
 pub first_not : (text : List ℕ) (end : ℕ) → end ≡ position_or_len is_line_feed text → length text ≤ end → (line : List ℕ) → IsFirstLine text line → ⊥
 first_not text end is high line f = no_first text line (rw is at high) f
 
--- a move's line is first exactly where the line there names the move
+-- a text begins with a move's line if and only if the line after the prefix names the move
 pub told_first : (text rest line : List ℕ) (n : ℕ) (told : Option Move) → text ≡ move_front n ++ rest → IsFirstLine rest line →
     MatchOption told ((mv : Move) → IsMoveLine line mv → ⊥) (λ mv. IsMoveLine line mv)
     → MatchOption told ((mv : Move) → BeginsWithMove text n mv → ⊥) (λ mv. BeginsWithMove text n mv)

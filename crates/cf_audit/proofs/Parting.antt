@@ -1,10 +1,10 @@
--- Where a text and what is written to its comparison differ first.
+-- The first place where a text and what is written to its comparison differ.
 use Rattle.std.proofs.Common.{◌≡◌, ℕ, zero, suc, ◌-◌, ◌<◌, ◌≤◌, List, [], ◌∷◌, ◌++◌, length, take, drop, min, Option, Some, refl, sym, ap, arith, length-append}
 use Rattle.std.specs.Prelude.{slice_get}
 use Rattle.std.proofs.lemmas.List.{length-take}
 use Rattle.cf_audit.specs.Compared.{IsOther}
 
--- a prefix of the group, and after it another byte of the group
+-- a prefix of the group, followed by another byte of the group
 pub record IsFrontOf (text group : List ℕ) (place other : ℕ) : Type 0 where
   pub same : take place text ≡ take place group
   pub next : slice_get group place ≡ Some other
@@ -24,7 +24,7 @@ front_of (x ∷ text) (g ∷ group) (suc place) (suc k) other within e =
     let h = front_of text group place k other (omega arith) rest in
     record { same = rw first (ap (λ (l : List ℕ). g ∷ l) h.same); next = h.next }
 
--- a text agrees up to one index, and with a prefix of a group after it up to another, where the group has another byte
+-- a text agrees up to one index, and the rest agrees with the group up to another, at which the group has another byte
 pub parted : (text group : List ℕ) (from to k other : ℕ) → from ≤ length text → to ≤ length text → IsOther text to other →
     take to text ++ other ∷ [] ≡ take from text ++ take k group
     → (from ≤ to) × IsFrontOf (drop from text) group (to - from) other

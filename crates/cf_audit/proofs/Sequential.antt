@@ -32,7 +32,7 @@ opened_regs : (plan : Plan) (hart : Hart) → (opened_processor plan hart).state
 unfolding opened_processor opened_on
 opened_regs plan hart = refl
 
--- so the hart has as many
+-- so the hart has 32 registers too
 opened_wide : (core : Processor) (hart : Hart) → core ≡ opened_processor core.plan hart → length core.state.regs ≡ 32 → length hart.regs ≡ 32
 opened_wide core hart opens wide =
     subst (λ (r : List ℕ). length r ≡ 32) (ap (λ (p : Processor). p.state.regs) opens ∙ opened_regs core.plan hart) wide
@@ -78,7 +78,7 @@ traces_untold core hart text n last accepted wide opens t =
           (subst (λ (moves : List Move). LeadsTo plan (start_on plan x) moves last anew.written) parts anew.leads);
     }
 
--- so it is for each trace that agrees
+-- so this holds of each trace that agrees
 traces_machine : (core : Processor) (hart : Hart) (told : Option (List ℕ)) (text : List ℕ) (n : ℕ) (last : Moment) → IsAccepted core.plan →
     length core.state.regs ≡ 32 → core ≡ opened_processor core.plan hart → (t : IsTrace core told text n last) → TracesMachine core hart told text n last t
 traces_machine core hart (Some rest) text n last accepted wide opens t = traces_told core hart rest text n last accepted wide opens t

@@ -1,4 +1,4 @@
--- How an audit ends, from where it has arrived.
+-- How an audit ends, from the point that it has reached.
 use Rattle.std.proofs.Common.{◌≡◌, ℕ, ◌+◌, ◌-◌, ◌<◌, ◌≤◌, true, List, [], ◌∷◌, ◌++◌, length, take, Option, Some, None, inl, inr, refl, sym, ap, subst, ◌∙◌, length-drop, arith}
 use Rattle.std.specs.Prelude.{slice_get}
 use Rattle.std.proofs.lemmas.List.{take_all}
@@ -53,7 +53,7 @@ last_made plan limit told m (first ∷ trace) made last (rest, finds, is, h) =
     last_made plan limit told (next_moment plan (record m { rest = rest }) first.move) trace made last h in
     record { at = l.at; leads = (rest, finds, is, l.leads); rest = l.rest; finds = l.finds; is = l.is; last_is = l.last_is }
 
--- where the group of the next move and the text differ first
+-- the first place where the group of the next move and the text differ
 record PartsThere (text : List ℕ) (start : RunPlace) (now new : AuditRun) (reached : Reaches most_retired show.moves start now.place) : Type 0 where
   last : Moment
   leads : Leads start.core.plan most_retired start.streams.input (moment_of start.core reached.rest) reached.trace last
@@ -146,7 +146,7 @@ wrong_at text start now h last stop line place kind leads some fails line_is = r
   line_is = line_is ∙ ap (λ (n : ℕ). line_of_byte text (n + place)) (sym (agreed-length text start now h));
 }
 
--- at the first line of the next group, where no more moves are made
+-- the trace goes wrong at the first line of the next group, and no more moves are made
 wrong_first : (text : List ℕ) (start : RunPlace) (now new : AuditRun) (h : Comes text start now) (line : ℕ) (kind : TraceKind) → 0 < length (left_of now.seen)
     → TraceFails start.core.plan start.streams.input h.reached.last (now.place.tally.moves + 1) (left_of now.seen) 0 kind h.reached.last →
     line ≡ line_of_byte text now.seen.agreed → new ≡ now
@@ -159,7 +159,7 @@ wrong_first text start now new h line kind some fails line_is same =
       still_there text start now new h same,
     )
 
--- a text with a line feed is not empty, nor one that begins with the line of a move
+-- a text with a line feed is not empty, nor is one that begins with the line of a move
 line_some : (text : List ℕ) → has_line text ≡ true → 0 < length text
 line_some [] h = absurd (cc)
 line_some (x ∷ text) h = omega arith
@@ -188,7 +188,7 @@ agrees_all text start now new n h none count same =
       still_there text start now new h same,
     )
 
--- the index where the group of a move and the text differ first, among all bytes
+-- the first index, among all bytes, at which the group of a move and the text differ
 parted_place : (text : List ℕ) (start : RunPlace) (now new : AuditRun) (h : Comes text start now) (line : ℕ) → PartsThere text start now new h.reached →
     line ≡ line_of_byte text new.seen.agreed → line ≡ line_of_byte text (now.seen.agreed + (new.seen.agreed - now.seen.agreed))
 parted_place text start now new h line p line_is =
@@ -210,7 +210,7 @@ fails_there text start now new h quiet fails =
     subst (λ (s : Streams). FailsToRead (in_state start.core h.reached.last.state) new.place.core (streams_of now.place.streams.input None) s) quiet.1
     (subst (λ (s : Streams). FailsToRead (in_state start.core h.reached.last.state) new.place.core s new.place.streams) quiet.0 there)
 
--- what the move of the next line leads to, where the audit ends with it
+-- what the move of the next line leads to, if the audit ends with it
 tried : (text : List ℕ) (start : RunPlace) (now new : AuditRun) (mv : Move) (stop : AuditStop) → length text ≤ most_trace →
     new.place.report ≡ Some (exposed_by_sink new.seen) → IsQuiet now new → Comes text start now → NextIs now mv → AuditTries mv now new (Some stop)
     → Audits start.core new.place.core start.streams.input new.place.streams.input text (outcome_of text stop)
@@ -312,7 +312,7 @@ pub audited-text : (core new : Processor) (told now : Option (List ℕ)) (seen :
 audited-text core new told now seen text stop answer begins audits is =
     subst (Audits core new told now text) (sym is) (subst (λ (c : Comparison). Audits core new told now c.text (outcome_of c.text stop)) begins audits)
 
--- and the input failed it where it stopped so
+-- and the input failed it if it stopped for that reason
 pub stopped-tested : (text : List ℕ) (stop : AuditStop) → input_tested (Some (outcome_of text stop)) ≡ audit_input_stopped (Some stop)
 stopped-tested text (stopped.Agrees n) = refl
 stopped-tested text (stopped.Wrong place kind) = refl

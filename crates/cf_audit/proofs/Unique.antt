@@ -1,4 +1,4 @@
--- A text is the trace of one run, and the trace of no run where it goes wrong.
+-- A text is the trace of one run, and it is the trace of no run if it goes wrong.
 use Rattle.std.proofs.Common.{◌≡◌, ℕ, zero, suc, ◌+◌, ◌<◌, true, false, List, [], ◌∷◌, ◌++◌, length, Some, None, inl, inr, refl, sym, ap, subst, ◌∙◌, append-nil, append_assoc, length-append, arith}
 use Rattle.std.specs.Prelude.{Bool, slice_get, codes, decimal, ◌||◌, ◌==◌}
 use Rattle.std.proofs.lemmas.List.{append_cancel_left}
@@ -23,7 +23,7 @@ use Rattle.cf_audit.specs.Traces.{most_retired, AreReadBack, IsReadBack, IsTrace
 use Rattle.cf_audit.proofs.Coming.{shown-some}
 use Rattle.cf_audit.proofs.FirstLines.{one_told}
 
--- a group is the line of its move, and what comes after that
+-- a group is the line of its move and what comes after that line
 rest_of_group : Plan → Made → List ℕ
 rest_of_group plan made = retirement made.state.retired made.event ++ picture plan made.state
 
@@ -36,7 +36,7 @@ group_parts plan n made more =
     let drawn : List ℕ = picture plan made.state in
     append_assoc (front ++ line) drawn more ∙ append_assoc front line (drawn ++ more) ∙ ap (λ (t : List ℕ). front ++ t) (sym (append_assoc line drawn more))
 
--- a move that is made at a moment has one group, and leads to one state
+-- a move that is made at a moment has one group and leads to one state
 same_group : (plan : Plan) (m : Moment) (n : ℕ) (a b : Made) → IsMade plan most_retired m a → IsMade plan most_retired m b → a.move ≡ b.move →
     (a.state ≡ b.state) × (shown show.moves plan n a ≡ shown show.moves plan n b)
 unfolding shown
@@ -58,7 +58,8 @@ same_group plan m n a b h k same =
           ∙ ap (λ (t : List ℕ). (numbered_move n b.move ++ retirement b.state.retired b.event) ++ t) drawn,
     )
 
--- two moves that are made at a moment, whose groups begin one text, are one move, and the same comes after the groups
+-- if the groups of two moves made at a moment begin the same text, the two are the same move, and the same text follows
+-- both groups
 pub record IsOneMove (plan : Plan) (m : Moment) (a b : Made) (x y : List ℕ) : Type 0 where
   pub move : a.move ≡ b.move
   pub state : a.state ≡ b.state
@@ -76,7 +77,7 @@ one-move plan m n a b x y h k reads tells same =
       after = append_cancel_left (shown show.moves plan n b) x y (ap (λ (t : List ℕ). t ++ x) (sym groups.1) ∙ same);
     }
 
--- the input that a move finds is what is left
+-- the input that a move finds is what is left of it
 at_rest : (plan : Plan) (told : List ℕ) (m : Moment) (rest : List ℕ) (made : Made) → Finds (Some told) m.rest rest →
     IsMade plan most_retired (record m { rest = rest }) made → IsMade plan most_retired m made
 at_rest plan told m rest made finds is = subst (λ (r : List ℕ). IsMade plan most_retired (record m { rest = r }) made) finds is
@@ -93,7 +94,7 @@ no-group plan n made more e =
     let size : 0 ≡ length (shown show.moves plan n made ++ more) = ap length e in
     absurd (omega (arith, size, length-append (shown show.moves plan n made) more, shown-some plan n made))
 
--- the trace of a run is that of no run with another number of moves
+-- no run with another number of moves has the same trace
 same_count : (plan : Plan) (told : List ℕ) (m : Moment) (n : ℕ) (a b : List Made) (last end : Moment) → Leads plan most_retired (Some told) m a last →
     Leads plan most_retired (Some told) m b end → AreReadBack a → AreReadBack b
     → all_shown show.moves plan n a ≡ all_shown show.moves plan n b → length a ≡ length b
@@ -126,7 +127,7 @@ line_there n mv more =
     ap has_line (ap (λ (t : List ℕ). t ++ more) (sym (append_assoc (codes "move " ++ decimal n ++ codes " ") (move_line mv) (10 ∷ [])))
     ∙ append_assoc front (10 ∷ []) more) ∙ has_feed front more
 
--- the byte of a prefix at an index is that of the text
+-- the byte of a prefix at an index is the text's byte there
 get_front : (front more : List ℕ) (place byte : ℕ) → slice_get front place ≡ Some byte → slice_get (front ++ more) place ≡ Some byte
 get_front [] more place byte e = absurd (cc)
 get_front (x ∷ front) more zero byte e = e

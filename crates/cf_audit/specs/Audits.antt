@@ -17,8 +17,8 @@ use Rattle.cf_audit.specs.declared.answer.Audit.TheVariants.{Agrees, Wrong, Read
 use Rattle.cf_audit.specs.Findings.{Findings, GoesWrongFinding, IsTraceFinding}
 use Rattle.cf_audit.specs.Traces.{IsTrace, ReachesMoment, GoesWrong, StopsAtCall}
 
--- the trace is that of a run of this many moves, at whose end the processor and the input are; or it goes wrong in this
--- line, for this reason, and they are where the moves that were made lead; or the input failed a call
+-- the trace is that of a run of this many moves, and the processor and the input are at its end; or it goes wrong in
+-- this line, for this reason, and they are where the moves that were made lead; or the input failed a call
 unfoldable pub Audits : (core new : Processor) → (told now : Option (List ℕ)) → List ℕ → Audit → Type 0
 Audits core new told now text (Agrees n) =
     (last : Moment) × IsTrace core told text n last × ReachesMoment core new told now last
@@ -40,8 +40,8 @@ AreFound found core new text (Wrong line kind) =
     (stop : Moment) × GoesWrongFinding found core text line kind stop × (new ≡ in_state core stop.state)
 AreFound found core new text ReadFault = Unit {0}
 
--- over an input whose remaining bytes are known, each trace of a run gets this answer; over an unknown one each trace of a
--- run whose moves find the same of it as those of the audit
+-- If the input's remaining bytes are known, each trace of a run gets this answer. If they are unknown, each trace of a
+-- run whose moves find the same of the input as those of the audit gets this answer.
 abbrev pub AgreesWithAll : (core new : Processor) → Option (List ℕ) → List ℕ → Audit → Type 0
 AgreesWithAll core new None text answer =
     (found : Findings) × AreFound found core new text answer
@@ -49,23 +49,24 @@ AgreesWithAll core new None text answer =
 AgreesWithAll core new (Some rest) text answer =
     (n : ℕ) (last : Moment) → IsTrace core (Some rest) text n last → IsAgreement n answer
 
--- These are the instructions that the sequential machine retires which starts on this hart: its first ones, as many as
--- this, with what the input tells; where it tells nothing, in as many steps, each of which finds some input.
+-- These are the first instructions, this many of them, that the sequential machine retires from this hart on, with the
+-- input's remaining bytes if these are known. If they are unknown, the machine retires these instructions in as many
+-- steps, each of which finds some input.
 abbrev pub AreRetired : Plan → Hart → Option (List ℕ) → ℕ → List Line → Type 0
 AreRetired plan hart (Some rest) n written = written ≡ sequence (isa_of plan) (machine_on hart rest) n
 AreRetired plan hart None n written = (at : Machine) × GoesTo (isa_of plan) (machine_on hart []) n at written
 
--- The moves that were made up to any moment of the run are right, on the machine that starts on this hart with what the
--- input tells. Where it tells nothing they are right over an input each of whose calls finds some, and from there the
--- others lead to the last moment, with these lines of retired instructions.
+-- The moves that were made up to any moment of the run are right, on the machine that starts on this hart with the
+-- input's remaining bytes if these are known. If they are unknown, the moves are right over an input of which each call
+-- finds some, and from there the others lead to the last moment, with these lines of retired instructions.
 abbrev pub AreRightThroughout : Plan → Hart → Option (List ℕ) → List Move → Moment → List Line → Type 0
 AreRightThroughout plan hart (Some rest) moves last written =
     (made more : List Move) → moves ≡ made ++ more → IsRight plan (machine_on hart rest) made
 AreRightThroughout plan hart None moves last written =
     (made more : List Move) → moves ≡ made ++ more → IsRightOnTheWay plan hart made more last written
 
--- The run whose trace the text is, and which leads to this moment, is one of the sequential machine that starts on this
--- hart, at each of its moments. Its retirement lines are a line for each of the machine's first instructions, up to some
+-- The run whose trace the text is leads to this moment. At each of its moments it is a run of the sequential machine
+-- that starts on this hart. Its retirement lines are a line for each of the machine's first instructions, up to some
 -- number, in their order, numbered by the machine's count.
 pub record TracesMachine (core : Processor) (hart : Hart) (told : Option (List ℕ)) (text : List ℕ) (n : ℕ) (last : Moment)
     (is : IsTrace core told text n last) : Type 0 where
@@ -75,7 +76,7 @@ pub record TracesMachine (core : Processor) (hart : Hart) (told : Option (List �
   pub lines : AreTexts (hart.retired + 1) written (all_shown show.retired core.plan 1 is.trace)
   pub throughout : AreRightThroughout core.plan hart told (moves_of is.trace) last written
 
--- The trace is that of a run of this many moves, at whose end the processor and the input are; and on whatever hart the
+-- The trace is that of a run of this many moves, and the processor and the input are at its end. On whatever hart the
 -- processor was opened, that run is one of the machine.
 pub record EndsTrace (core new : Processor) (told now : Option (List ℕ)) (text : List ℕ) (n : ℕ) : Type 0 where
   pub last : Moment

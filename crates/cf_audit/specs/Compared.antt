@@ -1,7 +1,7 @@
 -- A sink that compares what is written to it with a text (a convention of this project).
 use Rattle.std.specs.Prelude.{◌≡◌, ℕ, ◌≤◌, ◌<◌, suc, List, [], ◌∷◌, ◌++◌, length, take, map, slice_get, Option, Some, None, IfSome, IsSome}
 
--- the text, how many of its bytes were written, the byte after them that differs, if there is one, and how often the
+-- the text; how many of its bytes were written; the byte after them that differs, if there is one; and how often the
 -- sink has failed since
 pub record Comparison : Type 0 where
   pub text : List ℕ
@@ -13,7 +13,7 @@ pub record Comparison : Type 0 where
 abbrev pub fresh_comparison : List ℕ → Comparison
 fresh_comparison text = record { text = text; agreed = 0; other = None; faults = 0 }
 
--- the text does not have the byte at this index
+-- the text does not have this byte at this index
 abbrev pub IsOther : List ℕ → ℕ → ℕ → Type 0
 IsOther text place byte = slice_get text place ≡ Some byte → ⊥
 
@@ -21,7 +21,7 @@ IsOther text place byte = slice_get text place ≡ Some byte → ⊥
 abbrev pub DifferAt : (one other : List ℕ) → ℕ → Type 0
 DifferAt one other place = (byte : ℕ) → slice_get other place ≡ Some byte → IsOther one place byte
 
--- the bytes that agree are the text's, the other byte is not the text's, and the sink fails only after that byte
+-- the bytes that agree are the text's, the other byte is not, and the sink fails only after that byte
 pub record IsComparison (c : Comparison) : Type 0 where
   pub within : c.agreed ≤ length c.text
   pub other : IfSome c.other (λ byte. IsOther c.text c.agreed byte)
@@ -40,7 +40,7 @@ pub record AllAgrees (seen : Comparison) : Type 0 where
   pub works : seen.faults ≡ 0
   pub within : seen.agreed ≤ length seen.text
 
--- the byte as a list, empty where there is none
+-- the byte as a list, which is empty if there is none
 abbrev pub byte_list : Option ℕ → List ℕ
 byte_list None = []
 byte_list (Some byte) = byte ∷ []
@@ -49,7 +49,7 @@ byte_list (Some byte) = byte ∷ []
 abbrev pub put_of : Comparison → List ℕ
 put_of c = take c.agreed c.text ++ byte_list c.other
 
--- what the sink exposes: the text, each byte raised by one, then a 0 that ends it, and after that what was written. So
--- whoever writes to the sink is known to leave its text unchanged
+-- what the sink exposes: the text, with each byte raised by one, then a 0 that ends it, and then what was written; so a
+-- caller that writes to the sink is known to leave its text unchanged
 unfoldable pub exposed_by_sink : Comparison → List ℕ
 exposed_by_sink c = map suc c.text ++ 0 ∷ put_of c

@@ -44,7 +44,7 @@ pub record IsTrace (core : Processor) (told : Option (List ℕ)) (text : List �
   pub count : length trace ≡ n
   pub is : text ≡ all_shown show.moves core.plan 1 trace
 
--- the processor and the input are what the moves that lead to the moment leave
+-- the processor and the input are as the moves that lead to the moment leave them
 pub record ReachesMoment (core new : Processor) (told now : Option (List ℕ)) (last : Moment) : Type 0 where
   pub processor : new ≡ in_state core last.state
   pub input : Becomes told now last.rest
@@ -63,14 +63,14 @@ has_line text = list_any is_line_feed text
 unfoldable pub line_of_byte : List ℕ → ℕ → ℕ
 line_of_byte text place = 1 + count_by is_line_feed (take place text)
 
--- a prefix of the text is the trace of a run of n moves that leads to this moment; this is left of the text, and it is
--- not empty
+-- a prefix of the text is the trace of a run of n moves that leads to this moment; what is left of the text is this,
+-- and it is not empty
 pub record AgreesSoFar (core : Processor) (told : Option (List ℕ)) (text front left : List ℕ) (n : ℕ) (last : Moment) : Type 0 where
   pub parts : text ≡ front ++ left
   pub some : 0 < length left
   pub is : IsTrace core told front n last
 
--- the next move, of this number, is made at the moment, and this is its group: all that is shown for it
+-- the next move, of this number, is made at the moment, and its group is this: all that is shown for it
 pub record IsGroup (plan : Plan) (told : Option (List ℕ)) (last : Moment) (n : ℕ) (mv : Move) (group : List ℕ) : Type 0 where
   pub rest : List ℕ
   pub finds : Finds told last.rest rest
@@ -79,8 +79,8 @@ pub record IsGroup (plan : Plan) (told : Option (List ℕ)) (last : Moment) (n :
   pub move : made.move ≡ mv
   pub is : group ≡ shown show.moves plan n made
 
--- what is left begins with the line of a move that can be made, which leads to the moment `stop`, and it is the move's
--- group up to this index, at which the group has another byte or the text has ended
+-- what is left begins with the line of a move that can be made and leads to the moment `stop`; it agrees with the
+-- move's group up to this index, at which the group has another byte or the text has ended
 pub record PartsAt (plan : Plan) (told : Option (List ℕ)) (last : Moment) (n : ℕ) (left : List ℕ) (place : ℕ) (stop : Moment) : Type 0 where
   pub move : Move
   pub begins : BeginsWithMove left n move
@@ -92,10 +92,10 @@ pub record PartsAt (plan : Plan) (told : Option (List ℕ)) (last : Moment) (n :
   pub goes_on : slice_get group place ≡ Some other
   pub differs : slice_get left place ≡ Some other → ⊥
 
--- why what is left, which is not empty, is not the trace of further moves from the moment, the next of which has this
--- number; the index is that of the byte that shows it. The tests, in their order: no line feed is left; the first line
--- is not a move's; the move is barred; what follows is not its group. Only the last makes a move: then all stops at the
--- moment to which it leads, and otherwise at this one
+-- why what is left, which is not empty, is not the trace of further moves from the moment; the next of these has this
+-- number, and the index is that of the byte that shows it. The tests, in their order: no line feed is left; the first
+-- line is not a move's; the move is barred; what follows is not its group. Only the last test makes a move: then the
+-- audit stops at the moment to which that move leads, and otherwise at this one
 unfoldable pub TraceFails : Plan → Option (List ℕ) → Moment → ℕ → List ℕ → ℕ → TraceKind → (stop : Moment) → Type 0
 TraceFails plan told last n left place Cut stop =
     ((has_line left ≡ false) × (place ≡ 0) × (stop ≡ last))

@@ -1,4 +1,4 @@
--- One turn of an audit: the next group of the trace is tested and its move made, or the audit ends.
+-- One turn of an audit: the next group of the trace is tested and its move is made, or the audit ends.
 use Rattle.std.specs.Prelude.{◌≡◌, ◌⊎◌, ℕ, ◌+◌, ◌<◌, ◌≤◌, true, false, List, length, take, drop, Option, Some, None, Result, Ok, Err}
 use Rattle.run_options.specs.Reportings as show
 use Rattle.cf_io.specs.Puts.{Writes}
@@ -18,7 +18,7 @@ use Rattle.run_scripts.specs.declared.trace_refusal.TraceKind.TheVariants.{NotAM
 use Rattle.cf_audit.specs.Compared.{Comparison, exposed_by_sink, HasOther, AllAgrees}
 use Rattle.cf_audit.specs.Traces.{BeginsWithMove, has_line, line_of_byte}
 
--- where an audit has arrived: the RunPlace of its run, and the comparison that is its report
+-- the state of an audit: the RunPlace of its run, and the comparison that is its report
 pub record AuditRun : Type 0 where
   pub place : RunPlace
   pub seen : Comparison
@@ -27,7 +27,7 @@ pub record AuditRun : Type 0 where
 abbrev pub audit_run_of : RunPlace → Comparison → AuditRun
 audit_run_of place seen = record { place = place; seen = seen }
 
--- the AuditRun with these parts, given how a source exposes its bytes; the program's output is discarded
+-- the same, given how a source exposes its bytes; the program's output is discarded
 abbrev pub stand_by : {S : Type 0} → (S → Option (List ℕ)) → Processor → S → Comparison → Tally → AuditRun
 stand_by unread core input seen tally = audit_run_of (run_place_of core (streams_of (unread input) None) (Some (exposed_by_sink seen)) tally) seen
 
@@ -39,7 +39,7 @@ left_of seen = drop seen.agreed seen.text
 abbrev pub NextIs : AuditRun → Move → Type 0
 NextIs now mv = BeginsWithMove (left_of now.seen) (now.place.tally.moves + 1) mv
 
--- how a comparison stops the audit, if a byte does not agree
+-- how a comparison stops the audit if a byte does not agree
 unfoldable pub ComparisonAnswers : Comparison → Option AuditStop → Type 0
 ComparisonAnswers seen None = AllAgrees seen
 ComparisonAnswers seen (Some (Wrong place Differs)) =
@@ -91,13 +91,13 @@ Tests now new (Some (Wrong place Cut)) =
     ⊎ ((mv : Move) × NextIs now mv × AuditTries mv now new (Some (Wrong place Cut)))
 Tests now new stop = (mv : Move) × NextIs now mv × AuditTries mv now new stop
 
--- the outcome of an audit of the text that stops so: the line is that of the byte at the index
+-- the outcome of an audit of the text that stops in this way: the line is that of the byte at the index
 abbrev pub outcome_of : List ℕ → AuditStop → Audit
 outcome_of text (Agrees n) = outcome.Agrees n
 outcome_of text (Wrong place kind) = outcome.Wrong (line_of_byte text place) kind
 outcome_of text ReadFault = outcome.ReadFault
 
--- an error where the input failed the audit
+-- an error if the input failed the audit
 abbrev pub audit_input_stopped : Option AuditStop → Result (Unit {0}) (Unit {0})
 audit_input_stopped (Some ReadFault) = Err tt
 audit_input_stopped (Some (Agrees n)) = Ok tt

@@ -21,7 +21,7 @@ use cf_report::Tally;
 use cf_run::{Ran, Reporting, Show, known, make_and_show};
 use run_scripts::{MOST_SCRIPT, TraceKind};
 
-/// The greatest length of a trace, in bytes: that of a script.
+/// The maximum length of a trace, in bytes: that of a script.
 pub const MOST_TRACE: usize = MOST_SCRIPT;
 
 fn has_line(text: &[u8]) -> bool
@@ -40,7 +40,7 @@ fn wrong(report: &Compared<'_>, kind: TraceKind) -> AuditStop
     }
 }
 
-/// How the audit stops where a byte that was written does not agree with the trace.
+/// How the audit stops if a byte that was written does not agree with the trace.
 #[tactic(auto, unfolding(crate::specs::Turns::ComparisonAnswers))]
 fn compared(report: &Compared<'_>) -> Option<AuditStop>
     ensures { ComparisonAnswers report.now result }
@@ -54,8 +54,8 @@ fn compared(report: &Compared<'_>) -> Option<AuditStop>
     }
 }
 
-/// Tests the next group of the trace, makes its move, if nothing bars it, and compares all that is shown for it with
-/// the trace; or returns how the audit stops.
+/// Tests the next group of the trace, makes its move if nothing bars it, and compares all that is shown for it with the
+/// trace; or returns how the audit stops.
 fn advance<S: Source>(
     core: &mut Core,
     input: &mut S,
@@ -103,7 +103,7 @@ fn advance<S: Source>(
     }
 }
 
-/// Audits the trace group by group, until it stops. Of the trace it has what the comparison gives: only what is left.
+/// Audits the trace group by group until it stops. It sees of the trace only what the comparison has left.
 fn audit_groups<S: Source>(core: &mut Core, input: &mut S, report: &mut Compared<'_>) -> AuditStop
     requires opened { IsOpened core.old }
     requires retired { core.old.state.retired ≡ 0 }
@@ -130,18 +130,19 @@ fn audit_groups<S: Source>(core: &mut Core, input: &mut S, report: &mut Compared
 /// opened one on which nothing has retired, and the trace has at most `MOST_TRACE` bytes.
 ///
 /// Group by group, the audit makes the move that the trace names and compares all that is shown for it with the trace,
-/// byte by byte; it stores none of it. The answer is `Agrees` exactly where the trace is that of a run of this many
-/// moves; the processor and the input are then at its end. It is `Wrong` exactly where the trace is not, with the first
-/// test that fails, in the order of [`TraceKind`]. The line is the group's first; for `Differs` that of the first byte
-/// that differs, and for `Cut` the one in which the trace ends. The processor and the input are then where the moves
-/// that were made lead: those of the groups before, and for `Differs`, and for `Cut` within a group, also the move of
-/// this group.
+/// byte by byte; it stores none of it. The answer is `Agrees` if and only if the trace is that of a run of this many
+/// moves; the processor and the input are then at its end. It is `Wrong` if and only if the trace is not that of a run,
+/// with the first test that fails, in the order of [`TraceKind`]. The line is the group's first; for `Differs` it is
+/// that of the first byte that differs, and for `Cut` the one in which the trace ends. The processor and the input are
+/// then where the moves that were made lead: those of the groups before, and for `Differs`, and for `Cut` within a
+/// group, also the move of this group.
 ///
 /// So the run of a trace that agrees is one of the sequential machine at each of its moments, and the lines of retired
-/// instructions in it are the machine's, in its order, whatever made the trace and in whatever order its moves were made:
-/// with the input's remaining bytes where these are known, and otherwise with some input that each call finds.
+/// instructions in it are the machine's, in its order. This holds whatever made the trace, and in whatever order its
+/// moves were made. The machine has the input's remaining bytes if these are known, and otherwise some input that each
+/// call finds.
 ///
-/// `ReadFault` comes only where the input failed a call of the environment, and its count of faults rose. The program's
+/// `ReadFault` comes only if the input failed a call of the environment, and its count of faults rose. The program's
 /// output is discarded.
 pub fn audit<S: Source>(core: &mut Core, trace: &[u8], input: &mut S) -> Audit
     requires opened { IsOpened core.old }

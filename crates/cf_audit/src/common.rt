@@ -17,7 +17,7 @@ pub(crate) fn common(one: &[u8], other: &[u8]) -> usize
     same
 }
 
-/// The byte at an index of a text, where it has one.
+/// The byte at an index of a text, if it has one.
 pub(crate) fn byte_at(text: &[u8], place: usize) -> Option<u8>
     ensures { result ≡ slice_get text.now place }
 {

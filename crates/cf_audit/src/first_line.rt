@@ -11,7 +11,7 @@ use cf_report::move_number;
 use run_scripts::read_move;
 use rv_text::find_byte;
 
-/// What comes after a prefix of the text, where it begins with that prefix.
+/// What comes after a prefix, if the text begins with that prefix.
 fn after<'a>(text: &'a [u8], front: &[u8]) -> Option<&'a [u8]>
     ensures { MatchOption result ((rest : List ℕ) → text.now ≡ front.now ++ rest → ⊥)
         (λ rest. text.now ≡ front.now ++ rest.now) }
@@ -19,7 +19,7 @@ fn after<'a>(text: &'a [u8], front: &[u8]) -> Option<&'a [u8]>
     text.strip_prefix(front)
 }
 
-/// What comes after `move ` and the number, where the text begins with them.
+/// What comes after `move ` and the number, if the text begins with them.
 fn after_number(text: &[u8], n: u64) -> Option<&[u8]>
     ensures { MatchOption result ((rest : List ℕ) → text.now ≡ move_front n ++ rest → ⊥)
         (λ rest. text.now ≡ move_front n ++ rest.now) }
@@ -49,7 +49,7 @@ fn is_line_of(line: &[u8], mv: Move) -> bool
     written.bytes() == line
 }
 
-/// The move that is read in a line, where the line is the one that is written for it.
+/// The move that is read in a line, if the line is the one that is written for it.
 fn move_of(line: &[u8]) -> Option<Move>
     ensures { MatchOption result ((mv : AnyMove) → IsMoveLine line.now mv → ⊥) (λ mv. IsMoveLine line.now mv) }
 {
@@ -57,7 +57,7 @@ fn move_of(line: &[u8]) -> Option<Move>
     if is_line_of(line, mv) { Some(mv) } else { None }
 }
 
-/// The move with which the text begins: its first line is the `n`th move's.
+/// The move with which the text begins: its first line is that of the `n`th move.
 pub(crate) fn recorded_move(text: &[u8], n: u64) -> Option<Move>
     ensures { MatchOption result ((mv : AnyMove) → BeginsWithMove text.now n mv → ⊥) (λ mv. BeginsWithMove text.now n mv) }
 {

@@ -11,8 +11,8 @@ ghost use Rattle.cf_semantics.specs.state.State.{Moment};
 ghost use Rattle.run_scripts.specs.declared.trace_refusal.TraceKind.{TraceKind as Kind};
 ghost use Rattle.cf_audit.specs.Traces.{GoesWrong, IsReadBack, IsTrace};
 
-/// Over an input whose remaining bytes are known, a text is the trace of runs of one number of moves, and of no run
-/// where it goes wrong.
+/// Over an input whose remaining bytes are known, all runs with the same trace have the same number of moves, and a
+/// text that goes wrong is the trace of no run.
 pub fn t9_1()
     ensures one_number { (core : Processor) (told text : List ℕ) (n k : ℕ) (last end : Moment) →
         IsTrace core (Some told) text n last → IsTrace core (Some told) text k end → n ≡ k }

@@ -9,8 +9,8 @@ ghost use Rattle.cf_audit.specs.Turns.{outcome_of};
 use crate::answer::Audit;
 use run_scripts::TraceKind;
 
-/// How an audit stops: its outcome, with an index in the trace instead of a line. A line is counted once, when the audit
-/// has stopped, since a trace may have a million moves.
+/// How an audit stops: its outcome, with an index in the trace instead of a line. The line is computed only once, when
+/// the audit has stopped, since a trace may have a million moves.
 #[derive(Clone, Copy)]
 pub(crate) enum AuditStop {
     /// The trace is that of a run of this many moves.
@@ -47,7 +47,7 @@ fn line_of(text: &[u8], place: usize) -> u32
     count_lines(&text[..end]) as u32 + 1
 }
 
-/// The outcome of an audit of the trace that stops so.
+/// The outcome of an audit of the trace that stops in this way.
 pub(crate) fn outcome_of(trace: &[u8], stop: AuditStop) -> Audit
     requires { length trace.now ≤ most_trace }
     ensures { result ≡ outcome_of trace.now stop }

@@ -13,7 +13,7 @@ pub struct Cell {
     /// The result in this stage.
     pub packet: Option<Packet>,
 
-    /// Whether the two have met. It is true only where both are here.
+    /// Whether the two have met. It is true only if both are here.
     pub met: bool,
 }
 
@@ -26,10 +26,10 @@ pub struct Op {
     /// The instruction.
     pub instr: Instr,
 
-    /// The value of its first source, 0 where it has none.
+    /// The value of its first source, or 0 if it has none.
     pub a: u32,
 
-    /// The value of its second source, 0 where it has none.
+    /// The value of its second source, or 0 if it has none.
     pub b: u32,
 
     /// The answer, once memory was accessed: the extended value for a load, 0 for a store.

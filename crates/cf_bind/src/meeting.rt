@@ -20,7 +20,7 @@ fn garner(source: &mut Option<Binding>, reg: u8, value: u32)
     }
 }
 
-/// A value of this register after it has met an instruction with this destination. Where the instruction writes this
+/// A value of this register after it has met an instruction with this destination. If the instruction writes this
 /// register, nothing is left while the new value is unknown, and the new value once it is known.
 #[inline(always)]
 fn pass(destination: Option<Binding>, reg: u8, value: u32) -> Option<Packet>
@@ -34,9 +34,9 @@ fn pass(destination: Option<Binding>, reg: u8, value: u32) -> Option<Packet>
     }
 }
 
-/// The instruction and the result meet. A value goes to the sources that wait for it. Then, where the instruction
-/// writes the value's register, the value is killed while the new one is unknown, and updated to it once it is known. A
-/// turn or a halt makes the instruction dead, and cancels what it owes. A dead instruction changes nothing and is not
+/// The instruction and the result meet. A value goes to the sources that wait for it. Then, if the instruction writes
+/// the value's register, the value is killed while the new one is unknown, and updated to it once it is known. A turn
+/// or a halt makes the instruction dead and cancels what it owes. A dead instruction changes nothing and is not
 /// changed. What is left of the result is returned.
 #[inline(always)]
 pub fn meet(p: &mut Passenger, k: Packet) -> Option<Packet>

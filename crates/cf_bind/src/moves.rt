@@ -57,7 +57,7 @@ pub enum Bar {
     Failed,
     /// There is no such stage, siding or cell.
     NoSuchSite,
-    /// There is not an instruction in the stage.
+    /// There is no instruction in the stage.
     NoPassenger,
     /// There is no result in the stage.
     NoPacket,
@@ -71,7 +71,7 @@ pub enum Bar {
     SourceMissing(u8),
     /// Nothing there executes this class of instruction.
     NoUnit,
-    /// First the instruction has to be executed, or its operation answered or recovered.
+    /// The instruction has to be executed first, or its operation answered or recovered.
     NotDone,
     /// The instruction has to send what it owes first.
     Owes,

@@ -39,19 +39,19 @@ pub struct Passenger {
     /// Its address.
     pub pc: u32,
 
-    /// The decoded instruction, or `None` where there was none at its address.
+    /// The decoded instruction, or `None` if there was none at its address.
     pub what: Option<Instr>,
 
     /// Where fetch went on after it.
     pub guess: Guess,
 
-    /// Its first source, or `None` where it has none.
+    /// Its first source, or `None` if it has none.
     pub src1: Option<Binding>,
 
-    /// Its second source, or `None` where it has none.
+    /// Its second source, or `None` if it has none.
     pub src2: Option<Binding>,
 
-    /// Its destination, or `None` where it has none.
+    /// Its destination, or `None` if it has none.
     pub dst: Option<Binding>,
 
     /// It was executed.

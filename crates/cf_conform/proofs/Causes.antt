@@ -1,4 +1,4 @@
--- What the answer says of the counts of faults.
+-- What the answer says about the counts of faults.
 use Rattle.std.proofs.Common.{◌≡◌, ℕ, ◌≤◌, List, Some, Ok, Err, Result, refl, sym, ap, subst, ◌∙◌, arith}
 use Rattle.cf_io.specs.Causes.{HasCause}
 use Rattle.cf_semantics.specs.state.State.{State}

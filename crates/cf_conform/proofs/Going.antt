@@ -1,4 +1,4 @@
--- The lines of a log that are gone through, and one more.
+-- The lines of a log that were processed, and the next one.
 use Rattle.std.proofs.Common.{◌≡◌, ℕ, ◌+◌, ◌<◌, ◌≤◌, List, [], ◌∷◌, ◌++◌, length, Option, Some, None, Result, Ok, Err, refl, sym, ap, subst, ◌∙◌, inl, inr, append-nil, append_assoc, arith}
 use Rattle.std.proofs.lemmas.Bool.{cases_lt}
 use Rattle.std.proofs.lemmas.List.{length-append}
@@ -34,7 +34,7 @@ use Rattle.cf_conform.specs.LogPlaces.{LogPlace, as_run, at_time, no_progress, l
 use Rattle.cf_conform.specs.Wanted.{wanted_line}
 use Rattle.cf_conform.proofs.Machines.{latest_of, latest-more, latest-none, machine-line, retire-none, retire-more, retire-said, retire-read}
 
--- where the judgement has arrived after these lines
+-- what the run has reached after these lines
 pub record LogArrives (limit : ℕ) (start : LogPlace) (lines : List (List ℕ)) (now : LogPlace) : Type 0 where
   pub through : GoesThrough limit start lines now
   pub reached : Reaches limit show.report (as_run start) (as_run now)
@@ -64,7 +64,7 @@ arrives-first limit start fresh low =
       retire = retire-none start.core;
     }
 
--- one more line is gone through
+-- one more line is processed
 goes_more : (limit : ℕ) (start : LogPlace) (lines : List (List ℕ)) (now : LogPlace) (line : List ℕ) (new : LogPlace) → GoesThrough limit start lines now →
     (IsLimited limit now → ⊥) → JudgesLine line now new (Ok tt) → GoesThrough limit start (lines ++ line ∷ []) new
 unfolding GoesThrough
@@ -194,7 +194,7 @@ more_made limit start lines now new line t mv o is said m goes =
     not_retire : (said : Said) (mv : Move) → said ≡ Makes mv → said ≡ Observes Retire → ⊥
     not_retire said mv is other = let both : Makes mv ≡ Observes Retire = sym is ∙ other in cc
 
--- the latest retirement is as it was observed
+-- the latest retirement is the observed one
 observed_retire : (limit : ℕ) (start : LogPlace) (lines : List (List ℕ)) (now : LogPlace) (line : List ℕ) (t : TimedLine) (part : ObservedPart) (hart : Hart) →
     Onward limit start lines now line → start.core ≡ opened_processor start.core.plan hart → t.said ≡ Observes part → t.said ≡ Observes Retire →
     AgreesWith (after_time line) (wanted_line now.core.plan now.core.state now.progress.latest part) → IsMachineLine start.core.plan hart line
@@ -242,7 +242,7 @@ more_observed limit start lines now new line t part o is said compared goes =
     } in
     subst (LogArrives limit start (lines ++ line ∷ [])) (sym same) here
 
--- one more line is gone through
+-- one more line is processed
 pub arrives-more : (limit : ℕ) (start : LogPlace) (lines : List (List ℕ)) (now new : LogPlace) (line : List ℕ) → IsAccepted start.core.plan →
     length start.core.state.regs ≡ 32 → LogArrives limit start lines now → (IsLimited limit now → ⊥) → JudgesLine line now new (Ok tt) →
     LogArrives limit start (lines ++ line ∷ []) new

@@ -85,7 +85,7 @@ ends_again before text latest e = record {
       ∙ sym (append_assoc before e.front (retired_line latest.number latest.retired));
 }
 
--- what was earlier, or what the text ends with
+-- a text that ends with the line of the latest retirement still does so after these moves
 shown_latest : (plan : Plan) (n : ℕ) (trace : List Made) (before : List ℕ) (earlier : Option LatestRetired) (latest : LatestRetired) →
     ((l : LatestRetired) → earlier ≡ Some l → EndsWith before l) → latest_from earlier trace ≡ Some latest →
     EndsWith (before ++ all_shown show.retired plan n trace) latest
@@ -183,7 +183,7 @@ reading long skipped ascii time said =
     if long then Err TooLong else if skipped then Ok None else if not ascii then Err NotAscii
     else and_then time (λ time. and_then said (λ said. Ok (Some (line_with_time time said))))
 
--- a line that says something says what its words do
+-- a line that says something says what its words mean
 reads_said : (long skipped ascii : Bool) (time : Result ℕ LogKind) (said : Result Said LogKind) (t : TimedLine) →
     reading long skipped ascii time said ≡ Ok (Some t) → said ≡ Ok t.said
 reads_said true skipped ascii time said t is = absurd (cc)

@@ -1,4 +1,4 @@
--- Going through a log never ends with a fault of the report.
+-- Processing a log never ends with a fault of the report.
 use Rattle.std.proofs.Common.{◌≡◌, ◌∙◌, ℕ, List, length, Option, sym, subst, inl, inr}
 use Rattle.cf_semantics.specs.state.State.{State}
 use Rattle.run_finishes.specs.declared.finish.Ran.TheVariants as ran

@@ -1,4 +1,4 @@
--- How going through a log stops, and what its judgement says then.
+-- How the processing of a log stops, and what its judgement says then.
 use Rattle.std.proofs.Common.{◌≡◌, ℕ, zero, suc, ◌+◌, ◌-◌, ◌<◌, ◌≤◌, ◌^◌, List, [], ◌∷◌, ◌++◌, All, length, map, Option, Some, None, Result, Ok, Err, refl, sym, ap, subst, ◌∙◌, inl, inr, append-nil, append_assoc, arith}
 use Rattle.std.specs.Prelude.{◌⊎◌}
 use Rattle.std.proofs.lemmas.List.{length-append, map-append}
@@ -93,9 +93,9 @@ told_again (Some bytes) b x y (rest, is, left) told =
     let same : y ≡ rest = subst (λ (o : Option (List ℕ)). IsTold o y) left told in
     ap (λ (r : List ℕ). x ++ r) same ∙ sym is
 
--- Where it has arrived --
+-- Where the processing has arrived --
 
--- these lines are gone through, and these bytes of those taken are left
+-- these lines are processed, and these are the bytes left of those taken
 pub record LogComes (limit : ℕ) (before after : Option (List ℕ)) (start now : LogPlace) (rest : List ℕ) (count : ℕ) : Type 0 where
   pub taken : List ℕ
   pub gives : GivesInput before after taken
@@ -119,7 +119,7 @@ log-first limit told start rest none arrives = record {
   arrives = arrives;
 }
 
--- one more line is gone through
+-- one more line is processed
 pub log-more : (limit : ℕ) (a b c : Option (List ℕ)) (start now new : LogPlace) (feed next : LogFeeding) (count : ℕ) → IsAccepted start.core.plan →
     length start.core.state.regs ≡ 32 → LogComes limit a b start now feed.rest count → LogTurns limit count b c feed next now new None →
     LogComes limit a c start new next.rest (count + 1)
@@ -143,7 +143,7 @@ pub log-observed : (limit : ℕ) (a b : Option (List ℕ)) (start now : LogPlace
     count + 1 < 2 ^ 64 → now.progress.observed + 1 < 2 ^ 64
 log-observed limit a b start now rest count h few = omega (arith, h.arrives.observed, h.count_is, few)
 
--- Where a line that stops it leaves the run --
+-- Where a line that stops the log leaves the run --
 
 -- the run is where it was, or the output failed a move there
 abbrev LineLeaves : (now new : LogPlace) → LineStop → Type 0
@@ -209,7 +209,7 @@ RunStops limit now new answer =
     ⊎ ((r : Answer) × (as_run new ≡ as_run now) × IsOver limit now.core.state r × (answer ≡ scripted.Ran r))
     ⊎ ((mv : Move) × MoveDoes show.report mv (as_run now) (as_run new) (Err ran.WriteFault) × (answer ≡ scripted.Ran ran.WriteFault))
 
--- it is a run that reached a place and stopped there
+-- the run reached a place and stopped there
 run_comes : (limit : ℕ) (start now new : LogPlace) (answer : Scripted) → IsAccepted start.core.plan →
     (h : Reaches limit show.report (as_run start) (as_run now)) →
     RunStops limit now new answer → ComesTo limit show.report (as_run start) (moves_of h.trace) (as_run new) answer
@@ -311,7 +311,7 @@ judges limit before after start now new taken lines rest answer accepted wide gi
       retire = h.retire;
     }
 
--- the same stop, by all bytes that were taken
+-- the same stop, for all bytes that were taken
 later_stop : (limit : ℕ) (a b : Option (List ℕ)) (had taken rest : List ℕ) (lines : ℕ) (now new : LogPlace) (answer : Conformed) → GivesInput a b had →
     StopsLog limit b taken rest lines now new answer → StopsLog limit a (had ++ taken) rest lines now new answer
 later_stop limit a b had taken rest lines now new answer gives (inl h) = inl h
@@ -327,7 +327,7 @@ later_stop limit a b had taken rest lines now new answer gives (inr (inr (inr (i
     inr (inr (inr (inr (inl (record { whole = told_again a b had taken gives h.whole; nothing = h.nothing; same = h.same; ends = h.ends })))))
 later_stop limit a b had taken rest lines now new answer gives (inr (inr (inr (inr (inr h))))) = inr (inr (inr (inr (inr h))))
 
--- a turn that stops it
+-- a turn that stops the log
 pub log-stopped : (limit : ℕ) (a b c : Option (List ℕ)) (start now new : LogPlace) (feed next : LogFeeding) (count : ℕ) (answer : Conformed) →
     IsAccepted start.core.plan → length start.core.state.regs ≡ 32 → LogComes limit a b start now feed.rest count →
     LogTurns limit count b c feed next now new (Some answer) → JudgesLog limit a c start new answer
@@ -371,7 +371,7 @@ pub turns-limit : (limit lines : ℕ) (told : Option (List ℕ)) (feed : LogFeed
 unfolding LogTurns
 turns-limit limit lines told feed now limited = ([], gives_none told, inl (inl (record { limited = limited; same = refl; answer_is = refl })))
 
--- a line that a line feed ends
+-- a line that ends with a line feed
 pub turns-line : (limit lines : ℕ) (a b : Option (List ℕ)) (feed next : LogFeeding) (now new : LogPlace) (line : List ℕ) → (IsLimited limit now → ⊥) →
     FeedsLog a b feed next Line → line ≡ next.line → JudgesLine line now new (Ok tt) → LogTurns limit lines a b feed next now new None
 unfolding LogTurns FeedsLog
@@ -389,7 +389,7 @@ turns-stop limit lines a b feed next now new line stop answer free (taken, takes
   inl (inr (inl (record { free = free; line = line; next = inl (next, cut, sym is); stop = stop; does = does; answer_is = said }))),
 )
 
--- the unfinished one at the end of the log
+-- the unfinished line at the end of the log
 pub turns-last : (limit lines : ℕ) (a b : Option (List ℕ)) (feed next : LogFeeding) (now new : LogPlace) (line : List ℕ) (answer : Conformed) →
     (IsLimited limit now → ⊥) → FeedsLog a b feed next Last → line ≡ next.line → JudgesLine line now new (Ok tt) → EndsLogAt limit new.core.state answer →
     LogTurns limit lines a b feed next now new (Some answer)
@@ -425,7 +425,7 @@ turns-last-stop limit lines a b feed next now new line stop answer free (taken, 
   }))),
 )
 
--- an unfinished one that is too long
+-- an unfinished line that is too long
 pub turns-long : (limit lines : ℕ) (a b : Option (List ℕ)) (feed next : LogFeeding) (now : LogPlace) (answer : Conformed) → (IsLimited limit now → ⊥) →
     FeedsLog a b feed next TooLong → answer ≡ answer_at lines (Refused kind.TooLong) → LogTurns limit lines a b feed next now now (Some answer)
 unfolding LogTurns FeedsLog

@@ -1,4 +1,4 @@
--- The judgement of a whole log: the lines that are gone through, and where and why this stops.
+-- The judgement of a whole log: the lines that are processed, and where and why this stops.
 use Rattle.std.specs.Prelude.{◌≡◌, ◌⊎◌, ℕ, ◌+◌, ◌-◌, ◌<◌, ◌≤◌, ◌^◌, false, List, [], ◌∷◌, ◌++◌, All, length, min, Option, Some, None, Result, Ok, Err, codes}
 use Rattle.run_options.specs.Reportings as show
 use Rattle.rv_machine.specs.Hart.{Hart}
@@ -39,13 +39,13 @@ use Rattle.cf_conform.specs.Judging.{JudgesLine}
 use Rattle.cf_conform.specs.LogPlaces.{LogPlace, as_run}
 use Rattle.cf_conform.specs.Wanted.{without_feed}
 
--- Lines that are gone through --
+-- Lines that are processed --
 
 -- as many instructions have retired as the limit allows, and the program has not ended
 abbrev pub IsLimited : ℕ → LogPlace → Type 0
 IsLimited limit at = IsOver limit at.core.state ran.Limit
 
--- these lines are gone through, one after another: each is as it should be, and before each the limit is not reached
+-- these lines are processed one after another: each is as it should be, and before each the limit is not reached
 unfoldable pub GoesThrough : ℕ → LogPlace → List (List ℕ) → LogPlace → Type 0
 GoesThrough limit now [] last = last ≡ now
 GoesThrough limit now (line ∷ lines) last =
@@ -61,13 +61,13 @@ moves_read (Ok None) = []
 moves_read (Ok (Some timed)) = moves_said timed.said
 moves_read (Err kind) = []
 
--- the latest time after a line, where it was this one before
+-- the latest time after a line, given the latest time before it
 abbrev pub latest_time : ℕ → Result (Option TimedLine) LogKind → ℕ
 latest_time earlier (Ok None) = earlier
 latest_time earlier (Ok (Some timed)) = timed.time
 latest_time earlier (Err kind) = earlier
 
--- the moves that these lines say, in their order, where this is the latest time before them and the next move has this number
+-- the moves that these lines say, in order, given the latest time before them and the number of the next move
 unfoldable pub logged_moves : (earlier next : ℕ) → List (List ℕ) → List Move
 logged_moves earlier next [] = []
 logged_moves earlier next (line ∷ lines) =
@@ -80,9 +80,9 @@ logged_moves earlier next (line ∷ lines) =
 abbrev pub IsRetireLine : List ℕ → Type 0
 IsRetireLine line = (is_skipped line ≡ false) × (name_part (after_time line) ≡ codes "retire")
 
--- The words of the line, after its time, are those of a retirement line of the sequential machine that starts on this hart with
--- an empty input: of the last of its first instructions, as many as some number. The text has a line for each of these, numbered
--- by the machine's count, in their order.
+-- The sequential machine starts on this hart with an empty input. The text has a line for each of its first
+-- instructions, in order, up to some number of them, numbered by the machine's count. The words of this line, after its
+-- time, are those of the last line of the text.
 pub record IsMachineLine (plan : Plan) (hart : Hart) (line : List ℕ) : Type 0 where
   pub count : ℕ
   pub text : List ℕ
@@ -93,14 +93,14 @@ pub record IsMachineLine (plan : Plan) (hart : Hart) (line : List ℕ) : Type 0 
   pub last : text ≡ front ++ retired_line number shown
   pub same : words_of (after_time line) ≡ words_of (without_feed (retired_line number shown))
 
--- on whatever hart the processor was opened, the retirement lines among these are lines of that machine
+-- whatever hart the processor was opened on, the retirement lines among these are lines of that machine
 unfoldable pub RetireAsMachine : Processor → List (List ℕ) → Type 0
 RetireAsMachine core lines =
     (hart : Hart) → core ≡ opened_processor core.plan hart → All (λ line. IsRetireLine line → IsMachineLine core.plan hart line) lines
 
--- Where it stops --
+-- Where the processing stops --
 
--- the line after this many, counted from 1, up to the largest u32
+-- the line number that follows this many lines, counted from 1, up to the largest u32
 abbrev pub line_after : ℕ → ℕ
 line_after lines = min (lines + 1) (2 ^ 32 - 1)
 
@@ -117,8 +117,8 @@ EndsLogAt limit s LogEnd = GoesOn limit s
 EndsLogAt limit s (BadLog refusal) = ⊥
 EndsLogAt limit s (conformed.Differs line part) = ⊥
 
--- this line comes next in the bytes that are left of those taken: a line feed ends it; or these are all bytes of the log, and it
--- is what is left of them
+-- this line comes next in the bytes that are left of those taken: it ends with a line feed; or it is all that is left,
+-- and the log has no further bytes
 abbrev pub ComesNext : (told : Option (List ℕ)) → (taken rest line : List ℕ) → Type 0
 ComesNext told taken rest line =
     ((new : LogFeeding) × IsCut rest new × (new.line ≡ line))
@@ -161,20 +161,20 @@ pub record StopsAtLogEnd (limit : ℕ) (told : Option (List ℕ)) (taken rest : 
   pub same : new ≡ now
   pub ends : EndsLogAt limit now.core.state answer
 
--- as many lines are gone through as can be counted: this counts as the end of the log
+-- the maximum count of lines was processed: this counts as the end of the log
 pub record StopsAtMost (limit : ℕ) (lines : ℕ) (now new : LogPlace) (answer : Conformed) : Type 0 where
   pub most : lines ≡ 2 ^ 64 - 1
   pub same : new ≡ now
   pub ends : EndsLogAt limit now.core.state answer
 
--- where and why it stops after this many lines that line feeds end: these bytes of those taken are left
+-- where and why the log stops after this many lines that end with a line feed; these are the bytes left of those taken
 abbrev pub StopsLog : ℕ → (told : Option (List ℕ)) → (taken rest : List ℕ) → ℕ → (now new : LogPlace) → Conformed → Type 0
 StopsLog limit told taken rest lines now new answer =
     StopsAtLimit limit now new answer ⊎ StopsAtLine limit told taken rest lines now new answer
     ⊎ StopsTooLong limit rest lines now new answer ⊎ StopsUnread limit rest now new answer
     ⊎ StopsAtLogEnd limit told taken rest now new answer ⊎ StopsAtMost limit lines now new answer
 
--- these are all bytes of the log; its lines are these, and the last of them is unfinished
+-- these are all bytes of the log, and these are its lines; the last line is unfinished
 pub record EndsUnfinished (told : Option (List ℕ)) (taken : List ℕ) (lines : List (List ℕ)) : Type 0 where
   pub whole : IsTold told taken
   pub front : List (List ℕ)
@@ -184,14 +184,14 @@ pub record EndsUnfinished (told : Option (List ℕ)) (taken : List ℕ) (lines :
   pub some : 0 < length last
   pub lines_are : lines ≡ front ++ last ∷ []
 
--- the bytes that were taken are these lines and the rest, and it stops at the rest; or the last line is unfinished and is gone
--- through too, and then the log has ended
+-- the bytes that were taken are these lines and the rest, and the log stops at the rest; or the last line is unfinished
+-- and is processed too, and then the log has ended
 abbrev pub StopsAfter : ℕ → (told : Option (List ℕ)) → (taken : List ℕ) → (lines : List (List ℕ)) → (rest : List ℕ) → (now new : LogPlace) → Conformed → Type 0
 StopsAfter limit told taken lines rest now new answer =
     (HasLogLines taken lines rest × StopsLog limit told taken rest (length lines) now new answer)
     ⊎ (EndsUnfinished told taken lines × (new ≡ now) × EndsLogAt limit now.core.state answer)
 
--- the same answer of the run of a script that makes the moves of the log: where the log fails it has no further move
+-- the answer of the run of a script that makes the moves of the log; if the log fails, the script has no further move
 abbrev pub as_script : Conformed → Scripted
 as_script (Ran ran.ReadFault) = scripted.ScriptEnd
 as_script (Ran ran.WriteFault) = scripted.Ran ran.WriteFault
@@ -203,9 +203,10 @@ as_script LogEnd = scripted.ScriptEnd
 as_script (BadLog refusal) = scripted.ScriptEnd
 as_script (conformed.Differs line part) = scripted.ScriptEnd
 
--- The judgement of a log, by its bytes, or if the log does not expose them, by those that were taken: these lines are gone
--- through, and it stops after them with this answer. The processor is where the moves in these lines lead. Its run is a run of
--- the sequential machine, and the retirement lines among these lines are lines of that machine.
+-- The judgement of a log, by its bytes, or by those that were taken if the log does not expose its bytes: these lines
+-- are processed, and the log stops after them with this answer. The moves in these lines lead to the processor as it is
+-- now. Its run is a run of the sequential machine, and the retirement lines among these lines are lines of that
+-- machine.
 pub record JudgesLog (limit : ℕ) (before after : Option (List ℕ)) (start new : LogPlace) (answer : Conformed) : Type 0 where
   pub taken : List ℕ
   pub gives : GivesInput before after taken
@@ -222,7 +223,7 @@ pub record JudgesLog (limit : ℕ) (before after : Option (List ℕ)) (start new
 
 -- One turn --
 
--- the unfinished line at the end of the log is gone through, and the log has ended
+-- the unfinished line at the end of the log is processed, and the log has ended
 pub record EndsWithLine (limit : ℕ) (told : Option (List ℕ)) (taken rest : List ℕ) (now new : LogPlace) (answer : Conformed) : Type 0 where
   pub free : IsLimited limit now → ⊥
   pub whole : IsTold told taken
@@ -231,13 +232,13 @@ pub record EndsWithLine (limit : ℕ) (told : Option (List ℕ)) (taken rest : L
   pub does : JudgesLine rest now new (Ok tt)
   pub ends : EndsLogAt limit new.core.state answer
 
--- the next line is gone through
+-- the next line is processed
 pub record TurnsOn (limit : ℕ) (rest : List ℕ) (feed : LogFeeding) (now new : LogPlace) : Type 0 where
   pub free : IsLimited limit now → ⊥
   pub cut : IsCut rest feed
   pub does : JudgesLine feed.line now new (Ok tt)
 
--- after this many lines the next one is gone through, or it stops; these bytes were left of those taken, and others may be taken
+-- after this many lines the next one is processed, or the log stops; these bytes were left, and more may be taken
 unfoldable pub LogTurns : (limit lines : ℕ) → (before after : Option (List ℕ)) → (feed next : LogFeeding) → (now new : LogPlace) → Option Conformed → Type 0
 LogTurns limit lines before after feed next now new None =
     (taken : List ℕ) × GivesInput before after taken × TurnsOn limit (feed.rest ++ taken) next now new

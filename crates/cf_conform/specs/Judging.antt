@@ -25,7 +25,7 @@ use Rattle.cf_conform.specs.declared.progress.LogProgress.{LogProgress}
 use Rattle.cf_conform.specs.LogPlaces.{LogPlace, as_run, at_time, noted_event}
 use Rattle.cf_conform.specs.Wanted.{without_feed, wanted_line}
 
--- the words of a text are those of the line that it should be, if there is one
+-- a text has the same words as the line that it should be, if there is such a line
 abbrev pub AgreesWith : List ℕ → Option (List ℕ) → Type 0
 AgreesWith text None = ⊥
 AgreesWith text (Some wanted) = words_of text ≡ words_of (without_feed wanted)
@@ -41,7 +41,8 @@ pub record FailsLogged (mv : Move) (now new : LogPlace) : Type 0 where
   pub does : MoveDoes show.report mv (as_run now) (as_run new) (Err ran.WriteFault)
   pub progress : new.progress ≡ now.progress
 
--- what a move in a log leads to: it is made; or it has this first bar, and nothing changes; or the output failed its call
+-- the effect of a move in a log: it is made; or this is its first bar, and nothing changes; or the output failed its
+-- call
 unfoldable pub TriesMove : Move → (now new : LogPlace) → Result (Unit {0}) LineStop → Type 0
 TriesMove mv now new (Ok done) = MakesLogged mv now new
 TriesMove mv now new (Err (Refused (Barred bar))) = (first_bar now.core.plan now.core.state mv ≡ Some bar) × (new ≡ now)
@@ -55,8 +56,8 @@ TriesMove mv now new (Err (Refused kind.Differs)) = ⊥
 TriesMove mv now new (Err (Differs part)) = ⊥
 TriesMove mv now new (Err WriteFault) = FailsLogged mv now new
 
--- what an observation of this part leads to: its words, after the time, are those of the line that it should be, and it is
--- counted; or they are not, and nothing changes
+-- the effect of an observation of this part: its words, after the time, are those of the line that it should be, and it
+-- is counted; or they are not, and nothing changes
 unfoldable pub JudgesPart : List ℕ → ObservedPart → Processor → (now new : LogProgress) → Result (Unit {0}) LineStop → Type 0
 JudgesPart line part core now new (Ok done) =
     AgreesWith (after_time line) (wanted_line core.plan core.state now.latest part) × (new ≡ record now { observed = now.observed + 1 })
@@ -65,24 +66,24 @@ JudgesPart line part core now new (Err (Differs other)) =
     (other ≡ part) × (AgreesWith (after_time line) (wanted_line core.plan core.state now.latest part) → ⊥) × (new ≡ now)
 JudgesPart line part core now new (Err WriteFault) = ⊥
 
--- the same, where nothing but the progress changes
+-- the same, and nothing but the progress changes
 pub record JudgesPartAt (line : List ℕ) (part : ObservedPart) (now new : LogPlace) (result : Result (Unit {0}) LineStop) : Type 0 where
   pub compares : JudgesPart line part now.core now.progress new.progress result
   pub core : new.core ≡ now.core
   pub output : new.output ≡ now.output
 
--- what follows from what a line says
+-- the effect of what a line says
 unfoldable pub JudgesSaid : List ℕ → Said → (now new : LogPlace) → Result (Unit {0}) LineStop → Type 0
 JudgesSaid line (Makes mv) now new result = TriesMove mv now new result
 JudgesSaid line (Observes part) now new result = JudgesPartAt line part now new result
 
--- and from how it is read: a line that says nothing changes nothing, and neither does one that is refused
+-- the effect of a line by how it is read: a line that says nothing or is refused changes nothing
 unfoldable pub JudgesReading : List ℕ → Result (Option TimedLine) LogKind → (now new : LogPlace) → Result (Unit {0}) LineStop → Type 0
 JudgesReading line (Ok None) now new result = (result ≡ Ok tt) × (new ≡ now)
 JudgesReading line (Ok (Some timed)) now new result = JudgesSaid line timed.said (at_time now timed.time) new result
 JudgesReading line (Err why) now new result = (result ≡ Err (Refused why)) × (new ≡ now)
 
--- what a line leads to
+-- the effect of a line
 unfoldable pub JudgesLine : List ℕ → (now new : LogPlace) → Result (Unit {0}) LineStop → Type 0
 JudgesLine line now new result = JudgesReading line (log_line_read now.progress.time (now.progress.tally.moves + 1) line) now new result
 

@@ -1,4 +1,4 @@
--- How far a log has been gone through.
+-- How far a log has been processed.
 use Rattle.std.specs.Prelude.{ℕ, List, [], Option, Some, None}
 use Rattle.rv_machine.specs.Streams.{streams_of}
 use Rattle.cf_semantics.specs.declared.event.Event.{Event}
@@ -9,7 +9,7 @@ use Rattle.cf_run.specs.Reaching.{no_tally}
 use Rattle.cf_conform.specs.declared.progress.LatestRetired.{LatestRetired}
 use Rattle.cf_conform.specs.declared.progress.LogProgress.{LogProgress}
 
--- the processor, what the output exposes, and what was noted
+-- the processor, what the output exposes, and the progress so far
 pub record LogPlace : Type 0 where
   pub core : Processor
   pub output : Option (List ℕ)
@@ -18,19 +18,19 @@ pub record LogPlace : Type 0 where
 abbrev pub log_place : Processor → Option (List ℕ) → LogProgress → LogPlace
 log_place core output progress = record { core = core; output = output; progress = progress }
 
--- the same as the place of a run, whose input is empty and which shows nothing
+-- the same as the place of a run with an empty input that shows nothing
 abbrev pub as_run : LogPlace → RunPlace
 as_run at = run_place_of at.core (streams_of (Some []) at.output) None at.progress.tally
 
--- nothing is noted yet
+-- no progress yet
 abbrev pub no_progress : LogProgress
 no_progress = record { tally = no_tally; time = 0; observed = 0; latest = None }
 
--- the latest time is this one
+-- this is the latest time
 abbrev pub at_time : LogPlace → ℕ → LogPlace
 at_time at time = record at { progress = record at.progress { time = time } }
 
--- the instruction that retired last, after a move with this event, after which this many have retired
+-- the latest instruction to retire, after a move with this event and this count of retired instructions
 abbrev pub latest_after : Option LatestRetired → Event → ℕ → Option LatestRetired
 latest_after earlier (event.Retired line) retired = Some (record { number = retired; retired = line })
 latest_after earlier event.Plain retired = earlier

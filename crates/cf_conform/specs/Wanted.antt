@@ -46,7 +46,7 @@ value_wanted r (Some value) = Some (register_line r value)
 abbrev pub register_wanted : State → ℕ → Option (List ℕ)
 register_wanted s r = value_wanted r (slice_get s.regs r)
 
--- the line of the way in which the program ended: the first line of a closing report says the same
+-- the line that says how the program ended, as in the first line of a closing report
 unfoldable pub ended_line : End → List ℕ
 ended_line (ending.Exit status) = codes "ended " ++ counted_line (codes "exit ") status
 ended_line (ending.Trap cause pc detail) = codes "ended " ++ trap_line cause pc detail
@@ -56,8 +56,8 @@ abbrev pub end_wanted : Option End → Option (List ℕ)
 end_wanted None = None
 end_wanted (Some end) = Some (ended_line end)
 
--- the line that an observation of this part should be; none if the processor does not have that part, or if nothing has
--- retired or the program has not ended
+-- the line that an observation of this part should be; none if the processor does not have that part, if no instruction
+-- has retired, or if the program has not ended
 unfoldable pub wanted_line : Plan → State → Option LatestRetired → ObservedPart → Option (List ℕ)
 wanted_line plan s latest Retire = latest_wanted latest
 wanted_line plan s latest Fetch = Some (fetch_line s.fetch)

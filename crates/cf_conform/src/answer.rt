@@ -1,9 +1,9 @@
-//! How a log is answered.
+//! The answer for a log.
 
 use cf_log::{LogErr, LogKind, ObservedPart};
 use cf_run::Ran;
 
-/// How going through a log finishes.
+/// How the processing of a log finishes.
 #[derive(Clone, Copy)]
 pub enum Conformed {
     /// As any run may finish. `Exit` and `Trap` come at the end of the log, `ReadFault` if the log failed.
@@ -19,7 +19,7 @@ pub enum Conformed {
     Differs { line: u32, part: ObservedPart },
 }
 
-/// Why a log is not gone through any further at a line.
+/// Why the processing of a log stops at a line.
 #[derive(Clone, Copy)]
 pub(crate) enum LineStop {
     /// The line is refused.

@@ -77,7 +77,7 @@ fn observe(
     }
 }
 
-/// Does what a line says: makes its move, or compares its observation; or returns why the log is not gone through any further.
+/// Does what a line says: makes its move, or compares its observation; or returns why the log stops there.
 #[inline(always)]
 #[tactic(auto, unfolding(crate::specs::Judging::JudgesLine, crate::specs::Judging::JudgesReading, crate::specs::Judging::JudgesSaid))]
 pub(crate) fn judge_line<K: Sink>(

@@ -1,4 +1,4 @@
-//! What is noted while a log is gone through.
+//! The progress through a log.
 
 ghost use Rattle.std.specs.Prelude.{◌≡◌};
 ghost use Rattle.cf_conform.specs.LogPlaces.{no_progress, noted_event};
@@ -10,14 +10,14 @@ use rv_machine::Retired;
 /// The instruction that retired last.
 #[derive(Clone, Copy)]
 pub struct LatestRetired {
-    /// As which it retired, counted from 1.
+    /// Its number in the order of retirement, counted from 1.
     pub number: u64,
 
     /// Its line.
     pub retired: Retired,
 }
 
-/// What is noted of the lines of a log so far.
+/// What is recorded about the lines of a log so far.
 #[derive(Clone, Copy)]
 pub struct LogProgress {
     /// The counts of the moves.
@@ -51,7 +51,7 @@ impl LogProgress {
         }
     }
 
-    /// Notes the event of a move, after which this many instructions have retired.
+    /// Records the event of a move, after which this many instructions have retired.
     #[inline(always)]
     pub(crate) fn note(&mut self, event: &Event, retired: u64)
         ensures { self.new ≡ noted_event self.old event.now retired }

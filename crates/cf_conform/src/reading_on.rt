@@ -1,4 +1,4 @@
-//! Going through a log.
+//! Processing a log.
 
 ghost use Rattle.std.specs.Prelude.{◌≡◌, ◌+◌, ◌-◌, ◌<◌, ◌≤◌, ◌^◌, MatchOption, true, false};
 ghost use Rattle.cf_io.specs.Causes.{HasCause};
@@ -52,7 +52,7 @@ fn stopped_at(lines: u64, stop: LineStop) -> Conformed
     }
 }
 
-/// Goes through the next line, after this many; or returns the answer.
+/// Processes the next line, after this many; or returns the answer.
 #[inline(always)]
 fn advance<L: Source, K: Sink>(
     lines: u64,
@@ -92,9 +92,9 @@ fn advance<L: Source, K: Sink>(
     }
 }
 
-/// Goes through a log line by line, on an opened processor: makes the moves that it says, and compares its observations with
-/// the processor. It stops at the first line that is refused or does not agree, at the end of the log, at the limit, or at a
-/// call that failed. No line asks for memory, and a log may have any length.
+/// Processes a log line by line, on an opened processor: makes the moves that it says, and compares its observations
+/// with the processor. It stops at the first line that is refused or does not agree, at the end of the log, at the
+/// limit, or at a call that failed. Lines take no memory, and a log may have any length.
 pub fn conform<L: Source, K: Sink>(
     core: &mut Core,
     limit: u64,

@@ -71,7 +71,7 @@ fn register_line(core: &Core, register: u8) -> Option<Page>
     }
 }
 
-/// The line of the way in which the program ended.
+/// The line that says how the program ended.
 fn end_page(end: End) -> Page
     ensures { result ≡ text_of_end end }
 {
@@ -84,7 +84,7 @@ fn end_page(end: End) -> Page
     page
 }
 
-/// The line of the end of the program, if it has ended.
+/// The same line, if the program has ended.
 fn end_line(ending: Option<End>) -> Option<Page>
     ensures { result ≡ end_wanted ending }
 {

@@ -17,7 +17,7 @@ use Rattle.cf_core.proofs.Places.{earlier-restored}
 use Rattle.cf_core.proofs.Sites.{touched-within}
 use Rattle.cf_core.proofs.Touched.{moved-but}
 
--- what holds of the processor after it, in which the move can be made
+-- what holds of the state after that, in which the move can be made
 pub back-facts : (p : Processor) (k : Kept) → HasJustMade p k → IsProcessor p.plan (restored p.state k)
 back-facts p k h = subst (IsProcessor p.plan) (sym (earlier-restored p k h)) h.stood.facts
 

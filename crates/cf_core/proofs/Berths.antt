@@ -1,4 +1,4 @@
--- How many cells a siding has, and which there are.
+-- How many cells a siding has, and which cells exist.
 use Rattle.std.proofs.Common.{get_or, None, ◌≡◌, ℕ, zero, suc, ◌-◌, ◌<◌, ◌≤◌, List, [], ◌∷◌, Option, Some, length, map, refl, ap, sym, subst, arith}
 use Rattle.std.specs.Prelude.{IfSome, slice_get, unwrap_or}
 use Rattle.std.proofs.lemmas.Option.{get_or_from_slice_get, slice_get_past, slice_get_within}
@@ -10,7 +10,7 @@ use Rattle.cf_semantics.specs.state.Options.{on}
 use Rattle.cf_semantics.specs.state.State.{State, siding_at}
 use Rattle.cf_core.specs.Processors.{AreOps, IsOp, IsProcessor}
 
--- the siding of this number has as many cells as its plan says; where there is no such siding, none
+-- the siding of this number has as many cells as its plan says, and none if there is no such siding
 counted : (sidings : List (List (Option Op))) (plans : List SidingPlan) (k : ℕ) → map length sidings ≡ map (λ siding. siding.cells) plans →
     length (on (slice_get sidings k) [] (λ ops. ops)) ≡ (unwrap_or (slice_get plans k) no_siding).cells
 counted [] [] k e = refl
@@ -28,7 +28,7 @@ pub cells-none : (plan : Plan) (k : ℕ) → length plan.sidings ≤ k → cells
 unfolding cells_of
 cells-none plan k h = ap (λ (o : Option SidingPlan). (unwrap_or o no_siding).cells) (slice_get_past plan.sidings k h)
 
--- the operation at the end is what stands in the last cell
+-- the operation at the end is the one in the last cell
 last_at : (cells : List (Option Op)) (n : ℕ) → length cells ≡ suc n → Some (last_op cells) ≡ slice_get cells n
 last_at [] n e = absurd (omega arith)
 last_at (o ∷ []) zero e = refl

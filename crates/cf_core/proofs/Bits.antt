@@ -14,7 +14,7 @@ use Rattle.cf_core.specs.Marks.{mark_at, marked, marks_of, remarked}
 use Rattle.cf_core.specs.declared.marks.Marks.{Marks}
 use Rattle.cf_core.specs.declared.touching.Touched.{Touched}
 
--- one test says something else at one stage
+-- a test that differs at one stage
 word_at : (test other : ℕ → Bool) (n i : ℕ) → n ≤ 32 → 0 < i → i ≤ n → ((k : ℕ) → k ≢ i → other k ≡ test k) →
     word_of other n ≡ with_bit (word_of test n) (i - 1) (other i)
 word_at test other n zero few low within same = absurd (omega arith)
@@ -42,7 +42,7 @@ unfolding between
 between_rest test other i j same k true e off = rw e refl
 between_rest test other i j same k false e off = let far : k ≢ i = grind (arith, nat_tests) in rw e (same k far off)
 
--- it says something else at two
+-- a test that differs at two stages
 pub word-two : (test other : ℕ → Bool) (n i j : ℕ) → n ≤ 32 → 0 < i → i ≤ n → 0 < j → j ≤ n → ((k : ℕ) → k ≢ i → k ≢ j → other k ≡ test k) →
     word_of other n ≡ with_bit (with_bit (word_of test n) (i - 1) (other i)) (j - 1) (other j)
 word-two test other n i j few low within low2 within2 same =
@@ -69,7 +69,7 @@ marks-two plan s t i j few low within low2 within2 same =
     let recover = two (λ m. m.recover) in
     λ x. record { owes = owes x; stops = stops x; execute = execute x; launch = launch x; recover = recover x }
 
--- a bit that is put twice
+-- a bit that is set twice
 with-bit-twice : (w k : ℕ) (b : Bool) → with_bit (with_bit w k b) k b ≡ with_bit w k b
 unfolding with_bit
 with-bit-twice w k true = same_from_bits _ _ (λ i. rw (bit_at_or (bit_or w (2 ^ k)) (2 ^ k) i, bit_at_or w (2 ^ k) i) (omega arith))

@@ -11,7 +11,7 @@ use Rattle.cf_core.specs.Processors.{IsCellOfSet}
 get-set : (cells : List Cell) (k : ℕ) (c d : Cell) → slice_get cells k ≡ Some c → slice_get (slice_set cells k d) k ≡ Some d
 get-set cells k c d e = slice_get-set_same cells k d (slice_get_within cells k c e)
 
--- what was put into a stage that exists stands there
+-- what was put into a stage that exists is there
 pub cell-put : (cells : List Cell) (i : ℕ) (c d : Cell) → cell_at cells i ≡ Some c → cell_at (put_cell cells i d) i ≡ Some d
 cell-put cells zero c d e = absurd (cc)
 cell-put cells (suc k) c d e = get-set cells k c d e

@@ -15,7 +15,7 @@ use Rattle.cf_passengers.specs.Facts.{IsWritable}
 use Rattle.cf_sidings.specs.Sidings.{cells_in}
 use Rattle.cf_core.specs.Processors.{AreOps, IsProcessor, IsCellOfSet}
 
--- it is kept where a part is there or not, and is kept in each case
+-- it is kept whether or not a part is there, if it is kept in each case
 pub kept-or : {A : Type 0} (plan : Plan) (o : Option A) (d : State) (f : A → State) → (o ≡ None → IsProcessor plan d) →
     ((a : A) → o ≡ Some a → IsProcessor plan (f a)) → IsProcessor plan (on o d f)
 kept-or plan None d f g h = g refl
@@ -29,7 +29,7 @@ kept-where plan s o f g h = kept-or plan o s f (λ e. g) h
 pub all-at : {A : Type 0} (P : A → Type 0) (xs : List A) (i : ℕ) (x : A) → All P xs → slice_get xs i ≡ Some x → P x
 all-at P xs i x h e = subst P (get_or_from_slice_get xs i x x e) (h i x (slice_get_within xs i x e))
 
--- what holds of the content of a stage
+-- what holds of each stage holds of the contents of one
 stage_in : (plan : Plan) (cells : List Cell) (i : ℕ) (c : Cell) → All (IsCellOfSet (isa_of plan)) cells → cell_at cells i ≡ Some c → IsCellOfSet (isa_of plan) c
 stage_in plan cells zero c h e = absurd (cc)
 stage_in plan cells (suc i) c h e = all-at (IsCellOfSet (isa_of plan)) cells i c h e
@@ -83,7 +83,7 @@ siding-kept plan s k ops h e p = record {
   lane = h.lane;
 }
 
--- the lane gets other requests, and fetch, the kept values, the register file, the count and the ending change in any way
+-- the lane gets other requests; fetch, the cached values, the register file, the count and the ending change in any way
 pub ends-kept : (plan : Plan) (s t : State) → IsProcessor plan s → t.cells ≡ s.cells → t.sidings ≡ s.sidings → t.mem ≡ s.mem → All IsWritable t.lane →
     IsProcessor plan t
 ends-kept plan s t h same beside kept lane = record {
@@ -95,7 +95,7 @@ ends-kept plan s t h same beside kept lane = record {
   lane = lane;
 }
 
--- memory gets other contents, and its regions stay
+-- memory gets other contents, but its regions stay
 pub kept_bounds : (plan : Plan) (s : State) (mem : Memory) → IsProcessor plan s → bounds_of mem ≡ bounds_of s.mem → IsProcessor plan (record s { mem = mem })
 kept_bounds plan s mem h e = record {
   accepted = h.accepted;

@@ -1,4 +1,4 @@
--- The words that are seen are those that are kept, and nothing is allowed any more once the program has ended or failed.
+-- The words that are seen are those that are kept, except that nothing is allowed once the program has ended or failed.
 use Rattle.std.proofs.Common.{◌≡◌, ◌∙◌, ℕ, List, Bool, true, false, refl, sym}
 use Rattle.std.specs.Prelude.{◌&&◌, if◌then◌else◌, not}
 use Rattle.cf_bind.specs.declared.cell.Cell.{Cell}
@@ -16,7 +16,7 @@ use Rattle.cf_core.specs.Masks.{is_allowed, masks_of}
 use Rattle.cf_core.specs.Processors.{Processor}
 use Rattle.cf_core.specs.declared.marks.Marks.{Marks}
 
--- a move is allowed where the processor goes on and its row is free
+-- a move is allowed if the processor goes on and nothing in the move's row bars it
 pub allowed-as : (plan : Plan) (s : State) (mv : Move) (ended failed : Bool) → is_some s.ending ≡ ended → s.failed ≡ failed →
     is_allowed plan s mv ≡ ((not ended && not failed) && row_allows plan s mv)
 unfolding bar
@@ -24,14 +24,14 @@ allowed-as plan s mv true f e g = rw e refl
 allowed-as plan s mv false true e g = rw (e, g) refl
 allowed-as plan s mv false false e g = rw (e, g) refl
 
--- the word of a test where the processor goes on
+-- the word of a test, if the processor goes on
 chosen : (plan : Plan) (s : State) (kind : ℕ → Move) (n : ℕ) (goes_on : Bool) →
     ((i : ℕ) → is_allowed plan s (kind i) ≡ (goes_on && row_allows plan s (kind i))) →
     word_of (λ i. is_allowed plan s (kind i)) n ≡ (if goes_on then word_of (λ i. row_allows plan s (kind i)) n else 0)
 chosen plan s kind n true same = word-agrees (λ i. is_allowed plan s (kind i)) (λ i. row_allows plan s (kind i)) n (λ i low high. same i)
 chosen plan s kind n false same = word-agrees (λ i. is_allowed plan s (kind i)) (λ i. false) n (λ i low high. same i) ∙ word-none n
 
--- the words of the kept marks
+-- the words of the marks that are kept
 pub masks-are : (plan : Plan) (s : State) (marks : Marks) (goes_on : Bool) → marks ≡ marks_of plan s → goes_on ≡ (not (is_some s.ending) && not s.failed) →
     record {
       passengers = passenger_word s.cells;
@@ -60,7 +60,7 @@ masks-are plan s marks goes_on is on =
       recover = recover x;
     })
 
--- the words that are seen, from what was read
+-- the words that are seen, given what was read
 pub masks-seen : (p : Processor) (cells : List Cell) (marks : Marks) (goes_on : Bool) (riding flying met execute launch recover : ℕ) →
     marks ≡ marks_of p.plan p.state → goes_on ≡ (not (is_some p.state.ending) && not p.state.failed) → cells ≡ p.state.cells →
     riding ≡ passenger_word cells → flying ≡ packet_word cells → met ≡ met_word cells →

@@ -1,5 +1,5 @@
--- A processor is as one that was opened exactly if nothing is in it, fetch runs, no value is cached, and the program has
--- neither ended nor failed.
+-- A processor is as one that was just opened if and only if nothing is in it, fetch runs, no value is cached, and the
+-- program has neither ended nor failed.
 use Rattle.std.proofs.Common.{◌≡◌, ℕ, zero, suc, List, [], ◌∷◌, All, Option, Some, None, Bool, true, false, map, length, refl, ap, ◌∙◌}
 use Rattle.std.specs.Prelude.{replicate, not, ◌&&◌, ◌||◌, IsTrue}
 use Rattle.std.specs.List.{list_any}
@@ -29,7 +29,7 @@ neither : (a b : Bool) → (a || b) ≡ false → (a ≡ false) × (b ≡ false)
 neither true b e = absurd (cc)
 neither false b e = (refl, e)
 
--- a stage without an instruction and without a result is empty: none have met there
+-- a stage with neither an instruction nor a result is empty: nothing has met there
 bare : (p : Option Passenger) (k : Option Packet) (met : Bool) → (IsTrue met → IsTrue (is_some p && is_some k)) → (is_some p || is_some k) ≡ false →
     record { passenger = p; packet = k; met = met } ≡ empty_cell
 bare (Some p) k met h e = absurd (cc)
@@ -39,7 +39,7 @@ bare None None true h e =
     let none : false ≡ true = h refl in
     absurd (cc)
 
--- so are all stages where none has either
+-- so all stages are empty if none has either
 cells_bare : (isa : Isa) (cells : List Cell) → All (IsCellOfSet isa) cells → list_any is_occupied cells ≡ false → cells ≡ replicate (length cells) empty_cell
 cells_bare isa [] facts none = refl
 cells_bare isa (c ∷ cells) facts none =
@@ -47,7 +47,7 @@ cells_bare isa (c ∷ cells) facts none =
     let here : c ≡ empty_cell = bare c.passenger c.packet c.met (All-head (IsCellOfSet isa) c cells facts).met both.0 in
     rw (here, ← cells_bare isa cells (All-tail (IsCellOfSet isa) c cells facts) both.1) refl
 
--- a list in which nothing is
+-- a list of entries that are all empty
 all_none : {A : Type 0} (xs : List (Option A)) → list_any is_some xs ≡ false → xs ≡ replicate (length xs) None
 all_none [] none = refl
 all_none (Some x ∷ xs) none = absurd (cc)
@@ -118,7 +118,7 @@ opened-if p facts drained runs cached wide goes =
     let at = runs_at s.fetch runs in
     opened_at p at.0 cells (sidings_bare p.plan.sidings s.sidings facts.sidings parts.2) (no_request s.lane parts.1) at.1 cache on.0 on.1
 
--- and a processor that was opened is so
+-- and a processor that was opened has these properties
 none_there : (n : ℕ) → list_any is_occupied (replicate n empty_cell) ≡ false
 none_there zero = refl
 none_there (suc n) = none_there n

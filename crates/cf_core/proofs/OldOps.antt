@@ -1,4 +1,4 @@
--- The cells of sidings that an allowed move writes are there.
+-- The cells of sidings that an allowed move writes exist.
 use Rattle.std.proofs.Common.{◌≡◌, ℕ, ◌+◌, ◌<◌, ◌≤◌, List, Option, Some, None, length, refl, sym, subst, arith}
 use Rattle.std.specs.Prelude.{IfSome, slice_get}
 use Rattle.std.proofs.lemmas.Option.{slice_get_within}
@@ -23,7 +23,7 @@ use Rattle.cf_core.proofs.Berths.{length-siding}
 use Rattle.cf_core.proofs.Ported.{last-all, memory-port, siding-cells}
 use Rattle.cf_core.proofs.Weights.{few-cells}
 
--- of a slide: both of its cells; a siding has few
+-- Slide: both of its cells exist, and a siding has few cells
 slides_within : (ops : List (Option Op)) (c : ℕ) (o : Option (Option Op)) → slice_get ops (c + 1) ≡ o → slide_bar ops c ≡ None → c + 1 < length ops
 slides_within ops c None e free = absurd (grind arith)
 slides_within ops c (Some op) e free = slice_get_within ops (c + 1) op e
@@ -35,7 +35,7 @@ pub slide-few : (plan : Plan) (s : State) (k c : ℕ) → IsProcessor plan s →
 slide-few plan s k c h free = let within = slide-cells plan s k c free in let n = length-siding plan s k h in let few = few-cells plan k h.accepted in
     omega (arith, within, n, few)
 
--- of a passenger that launches or recovers: those of its siding
+-- Launch and Recover: the cells of the instruction's siding exist
 passengers_siding : (plan : Plan) (s : State) (k : ℕ) (o : Option Passenger) → IsProcessor plan s → on o None (λ p. siding_of plan (kind p)) ≡ Some k →
     (k < length plan.sidings) × (0 < length (siding_at s k))
 passengers_siding plan s k None h e = absurd (cc)

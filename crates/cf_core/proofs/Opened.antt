@@ -1,4 +1,4 @@
--- What holds of every processor holds of one in which nothing stands.
+-- What holds of every processor holds of one in which nothing is.
 use Rattle.std.proofs.Common.{◌≡◌, ℕ, zero, suc, List, [], ◌∷◌, Option, Some, None, Bool, false, map, length, refl, sym, ap, ◌∙◌}
 use Rattle.std.specs.Prelude.{replicate, IfSome, slice_get}
 use Rattle.std.proofs.lemmas.List.{length-replicate}
@@ -24,11 +24,11 @@ use Rattle.cf_passengers.specs.Facts.{IsWritable}
 use Rattle.cf_sidings.specs.Sidings.{empty_sidings}
 use Rattle.cf_core.specs.Processors.{AreOps, IsOp, IsProcessor, IsCellOfSet}
 
--- nothing holds
+-- the marks of a stage of which nothing holds
 abbrev no_mark : StageMark
 no_mark = record { owes = false; stops = false; execute = false; launch = false; recover = false }
 
--- a cell in which no operation stands
+-- a cell without an operation
 no_op : Option Op
 no_op = None
 
@@ -41,7 +41,7 @@ cells_laid : (sidings : List SidingPlan) → map length (map empty_siding siding
 cells_laid [] = refl
 cells_laid (s ∷ ss) = rw (cells_empty s, cells_laid ss) refl
 
--- no cell of them holds an operation
+-- none of these cells holds an operation
 none_holds : (plan : Plan) (bounds : List Bounds) (n : ℕ) (sidings : List SidingPlan) (k : ℕ) →
     AreOps plan bounds n (on (slice_get (map empty_siding sidings) k) [] (λ ops. ops))
 none_holds plan bounds n [] k = All-nil (λ (o : Option Op). IfSome o (IsOp plan bounds n))
@@ -73,7 +73,7 @@ opened-processor plan fetch cache regs mem retired ending failed acc = record {
   lane = All-nil IsWritable;
 }
 
--- so it does of each whose stages, sidings and lane are empty
+-- so it holds of each processor whose stages, sidings and lane are empty
 pub opened-is : (plan : Plan) (s : State) → IsAccepted plan → s.cells ≡ replicate plan.stages empty_cell → s.sidings ≡ empty_sidings plan → s.lane ≡ [] →
     IsProcessor plan s
 opened-is plan s acc stages sidings lane = rw (← stages, ← sidings, ← lane) at (opened-processor plan s.fetch s.cache s.regs s.mem s.retired s.ending s.failed

@@ -1,4 +1,4 @@
--- What was kept of a move has its place in the processor that has made it.
+-- What was kept of a move can be put back into the processor that has made it.
 use Rattle.std.proofs.Common.{◌≡◌, ◌∙◌, ℕ, zero, suc, ◌+◌, ◌-◌, ◌<◌, ◌≤◌, List, [], ◌∷◌, All, Option, Some, None, length, map, refl, sym, ap, subst, arith}
 use Rattle.std.specs.Prelude.{IfSome, slice_get, slice_index, slice_index_or}
 use Rattle.rv_inst.specs.declared.isa.Isa.{Isa}
@@ -62,7 +62,7 @@ on_held P (Some a) f h = h a refl
 
 -- Stages --
 
--- what is kept of a stage stands there
+-- what is kept of a stage is what is there
 abbrev StandsIn : State → KeptCell → Type 0
 StandsIn s k = cell_at s.cells k.stage ≡ Some k.cell
 
@@ -106,7 +106,7 @@ old_cells plan s mv few h e =
 
 -- Sidings --
 
--- what is kept of a siding's cell stands there
+-- what is kept of a siding's cell is what is there
 abbrev StandsBeside : State → KeptOp → Type 0
 StandsBeside s k = slice_get (siding_at s k.siding) k.place ≡ Some k.op
 

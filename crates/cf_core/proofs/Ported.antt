@@ -33,7 +33,7 @@ siding-cells plan s c k h e = let n = has_cells plan h.accepted c k e in let l =
 pub port-cells : (plan : Plan) (s : State) → IsProcessor plan s → 0 < length (siding_at s (port plan))
 port-cells plan s h = siding-cells plan s MemoryClass (port plan) h (memory-port plan h.accepted)
 
--- what holds of each cell of a siding holds of its last
+-- what holds of each cell of a siding holds of the last one
 pub last-all : (P : Op → Type 0) (ops : List (Option Op)) → All (λ o. IfSome o P) ops → IfSome (last_op ops) P
 last-all P [] h = tt
 last-all P (o ∷ []) h = h 0 None (omega arith)
@@ -49,7 +49,7 @@ ready plan mem op a h e =
     let m : class_of op.instr ≡ MemoryClass = memory-op plan a (class_of op.instr) h.siding in
     record { memory = m; unanswered = e; permitted = h.permitted (rw m refl) }
 
--- and it can be made where nothing bars that
+-- and its access can be made if nothing bars that
 ready_last : (plan : Plan) (mem : Memory) (o : Option Op) → IsAccepted plan → IfSome o (IsOp plan (bounds_of mem) (port plan)) → access_bar o ≡ None →
     CanAccess o mem
 ready_last plan mem None a h e = absurd (cc)

@@ -1,4 +1,4 @@
--- A move that asks nothing of the outside is made whatever the input has left.
+-- A move that asks nothing of the outside is made in the same way whatever the input has left.
 use Rattle.std.proofs.Common.{◌≡◌, List, [], ℕ}
 use Rattle.rv_machine.specs.Streams.{Streams}
 use Rattle.rv_machine.proofs.InputKnown.{some_rest, rest-told, rest-spent, stays}
@@ -8,7 +8,7 @@ use Rattle.cf_semantics.specs.moves.Moves.{next}
 use Rattle.cf_core.specs.Processors.{Processor}
 use Rattle.cf_core.specs.Stepping.{Makes}
 
--- the moment of a processor with this rest of the input, and no output yet
+-- the moment of a processor with this left of the input, and with no output yet
 abbrev pub with_rest : Processor → List ℕ → Moment
 with_rest p rest = record { state = p.state; rest = rest; output = [] }
 

@@ -1,4 +1,4 @@
--- What holds of a stage by what stands there: no instruction, or one of a class with units or with a siding.
+-- What holds of a stage, by what is there: no instruction, or one of a class with units or with a siding.
 use Rattle.std.proofs.Common.{◌≡◌, ◌∙◌, ℕ, Option, Some, None, Bool, true, false, refl, sym, ap}
 use Rattle.std.specs.Prelude.{◌==◌, ◌&&◌, ◌||◌, not}
 use Rattle.cf_bind.specs.declared.cell.Cell.{Cell}
@@ -18,12 +18,12 @@ use Rattle.cf_core.specs.Marks.{row_allows, mark_at, no_mark}
 use Rattle.cf_core.specs.Masks.{owes_at, stops_there}
 use Rattle.cf_core.specs.Riders.{has_sources, is_idle, is_out, is_undone}
 
--- the stage of a passenger is there
+-- the stage of an instruction exists
 pub here-by : (o : Option Cell) (p : Passenger) → on o None (λ c. c.passenger) ≡ Some p → (c : Cell) × (o ≡ Some c) × (c.passenger ≡ Some p)
 here-by None p e = absurd (cc)
 here-by (Some c) p e = (c, refl, e)
 
--- a row is free where each of its tests fails, and its rest is free
+-- no bar in a row applies if each of its tests fails and no bar in the rest of it applies
 sources_row : (p : Passenger) (rest : Option Bar) → not (is_some (source_bar p rest)) ≡ (has_sources p && not (is_some rest))
 sources_row p rest = by (missing p.src1) (missing p.src2)
   where
@@ -85,7 +85,7 @@ recover-free plan s i k p e at =
     let site : recovers plan (kind p) i ≡ (recover_stage plan k == i) = rw at refl in
     rw (h.1, h.2, site) (recover_row (recover_stage plan k == i) p.launched p.recovered (exit_op_bar plan s p))
 
--- where it stops
+-- the stage at which it stops
 in_turn : (a b c : Bool) → (a && b && c) ≡ (a && (b && c))
 in_turn true b c = refl
 in_turn false b c = refl
@@ -112,7 +112,7 @@ stops-units plan s i p e at =
     let h = here-by (cell_at s.cells i) p e in
     rw (h.1, h.2, at) (by_units p.launched (not p.recovered) (is_undone p) (last_stage plan (kind p) == i))
 
--- without a siding nothing is launched and nothing comes back
+-- without a siding nothing is launched, and nothing comes back
 no_launch : (dead done launched full : Bool) (rest : Option Bar) →
     not (is_some (first dead Dead (first (done || launched) AlreadyDone (first true NoUnit (first full NotMet rest))))) ≡ false
 no_launch true done launched full rest = refl
@@ -138,7 +138,7 @@ recover-none plan s i p e at =
 pub owes-here : (s : State) (i : ℕ) (p : Passenger) → passenger_at s.cells i ≡ Some p → owes_at s i ≡ is_some p.owes
 owes-here s i p e = let h = here-by (cell_at s.cells i) p e in rw (h.1, h.2) refl
 
--- and where there is no passenger
+-- and of a stage without an instruction
 none_row : (o : Option Cell) (row : Cell → Option Bar) → ((c : Cell) → c.passenger ≡ None → row c ≡ Some NoPassenger) → on o None (λ c. c.passenger) ≡ None →
     false ≡ not (is_some (on o (Some NoSuchSite) row))
 none_row None row bars e = refl
@@ -159,7 +159,7 @@ mark-none plan s i e =
     let recover = none_row o (λ c. recover_bar plan s c i) (λ c none. rw none refl) e in
     λ x. record { owes = owes x; stops = stops x; execute = execute x; launch = launch x; recover = recover x }
 
--- and of one with which no unit and no siding has anything left to do
+-- and of an instruction with which no unit and no siding has anything left to do
 idle_parts : (dead done launched recovered : Bool) → (not (not dead && not done) && not (launched && not recovered)) ≡ true →
     ((not dead && not done) ≡ false) × ((launched && not recovered) ≡ false)
 idle_parts false false launched recovered e = absurd (cc)

@@ -1,4 +1,4 @@
--- The moves of a run are taken back, the last first.
+-- The moves of a run are taken back, beginning with the last.
 use Rattle.std.proofs.Common.{◌≡◌, ◌≢◌, ◌∙◌, List, [], ◌∷◌, All, refl, ap, arith}
 use Rattle.std.proofs.lemmas.List.Elements.{All-tail}
 use Rattle.cf_bind.specs.declared.moves.Move.{Move}

@@ -1,4 +1,4 @@
--- What holds of a stage depends on what stands there, and on the first and last cell of the siding of the passenger there.
+-- What holds of a stage depends on what is there, and on the first and the last cell of the siding of its instruction.
 use Rattle.std.proofs.Common.{◌≡◌, ◌≢◌, ◌∙◌, ℕ, List, Option, Some, None, Bool, true, false, refl, sym, ap, arith}
 use Rattle.std.specs.Prelude.{◌==◌, ◌&&◌, ◌||◌, [], ◌∷◌, nat_eq, not}
 use Rattle.std.proofs.lemmas.Bool.Decides.{nat_tests}
@@ -20,7 +20,7 @@ use Rattle.cf_core.specs.Marks.{mark_at}
 use Rattle.cf_core.specs.declared.marks.StageMark.{StageMark}
 use Rattle.cf_core.proofs.Bits.{SameBut}
 
--- what holds of a stage in which this stands
+-- what holds of a stage with these contents
 unfoldable pub mark_by : Plan → State → ℕ → Option Cell → StageMark
 mark_by plan s i o = record {
   owes = on o false (λ c. on c.passenger false (λ p. is_some p.owes));
@@ -46,24 +46,24 @@ cell-but plan s i j c k off far =
     ∙ beside plan s (put_cell s.cells i c) k (cell_at s.cells k)
     ∙ sym (mark_is plan s k)
 
--- two cases agree where they do for each value
+-- two functions of an option agree if they agree on each value
 on_same : {A B : Type 0} (o : Option A) (d : B) (f g : A → B) → ((a : A) → f a ≡ g a) → on o d f ≡ on o d g
 on_same None d f g same = refl
 on_same (Some a) d f g same = same a
 
--- where no siding of the class launches, the first cell does not matter
+-- if no siding of the class launches there, the first cell does not matter
 no_launch : (a b l m : Bool) (r q : Option Bar) → l ≡ false → first_bar_of ((a, Dead) ∷ (b, AlreadyDone) ∷ (not l, NoUnit) ∷ (m, NotMet) ∷ []) r
     ≡ first_bar_of ((a, Dead) ∷ (b, AlreadyDone) ∷ (not l, NoUnit) ∷ (m, NotMet) ∷ []) q
 no_launch true b l m r q e = refl
 no_launch false true l m r q e = refl
 no_launch false false l m r q e = rw e refl
 
--- where none recovers, the last does not
+-- if none recovers there, the last cell does not matter
 no_return : (l b : Bool) (r q : Option Bar) → l ≡ false → first_bar_of ((not l, NoUnit) ∷ (b, AlreadyDone) ∷ []) r
     ≡ first_bar_of ((not l, NoUnit) ∷ (b, AlreadyDone) ∷ []) q
 no_return l b r q e = rw e refl
 
--- the rows of Launch and Recover for a passenger
+-- the rows of Launch and Recover for an instruction
 launch_row : Plan → State → Cell → ℕ → Passenger → Option Bar
 launch_row plan s c i p = first_bar_of (
     (p.dead, Dead) ∷
@@ -76,7 +76,7 @@ return_row plan s i p = first_bar_of (
     (not (recovers plan (kind p) i), NoUnit) ∷
     (not p.launched || p.recovered, AlreadyDone) ∷ []) (exit_op_bar plan s p)
 
--- a siding of another number has its cells still
+-- a siding of another number still has its cells
 other_siding : (s : State) (k h : ℕ) (ops : List (Option Op)) → h ≢ k → siding_at (with_siding s k ops) h ≡ siding_at s h
 other_siding s k h ops off = put_other s.sidings k h ops off
 
@@ -126,7 +126,7 @@ unfolding return_row
 return_same plan s k ops j c off = on_same c.passenger (Some NoPassenger) (return_row plan (with_siding s k ops) j) (return_row plan s j)
     (λ p. return_row_same plan s k ops j p off (siding_of plan (kind p)) refl)
 
--- other cells of a siding change no stage but those where it launches and recovers
+-- other cells in a siding change no stage but those at which it launches and recovers
 pub siding-but : (plan : Plan) (s : State) (k : ℕ) (ops : List (Option Op)) → SameBut plan s (with_siding s k ops) (launch_stage plan k) (recover_stage plan k)
 unfolding mark_by
 siding-but plan s k ops j off far =
@@ -140,7 +140,7 @@ siding-but plan s k ops j off far =
     ∙ (λ x. record { owes = m.owes; stops = m.stops; execute = m.execute; launch = launch x; recover = recover x })
     ∙ sym (mark_is plan s j)
 
--- nor does what stands beside the pipes and the sidings
+-- nor does a change of what is beside the pipes and the sidings
 among : (plan : Plan) (s : State) (sidings : List (List (Option Op))) (i : ℕ) (o : Option Cell) → sidings ≡ s.sidings →
     mark_by plan (record s { sidings = sidings }) i o ≡ mark_by plan s i o
 among plan s sidings i o same = ap (λ (x : List (List (Option Op))). mark_by plan (record s { sidings = x }) i o) same

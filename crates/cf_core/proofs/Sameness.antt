@@ -1,4 +1,4 @@
--- What `==` answers decides whether two contents of the processor are the same.
+-- `==` decides whether two contents of the processor are the same.
 use Rattle.std.proofs.Common.{◌≡◌, refl}
 use Rattle.std.proofs.lemmas.Bool.Decides.{Decides-and, Decides-eqb}
 use Rattle.std.specs.Bool.{Decides}

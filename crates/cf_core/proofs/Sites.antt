@@ -35,7 +35,7 @@ one_within plan i low high = record { low = low; low_in = high; high = low; high
 there : (plan : Plan) (s : State) (i : ℕ) (c : Cell) → IsProcessor plan s → cell_at s.cells i ≡ Some c → (0 < i) × (i ≤ plan.stages)
 there plan s i c h e = let a = stage-low s.cells i c e in let b = stage-high s.cells i c e in let n = h.stages in (a, omega arith)
 
--- a row that names a stage names one that exists
+-- if nothing bars a row that names a stage, the stage exists
 cell_in : (cells : List Cell) (i : ℕ) (f : Cell → Option Bar) (o : Option Cell) → cell_at cells i ≡ o → on o (Some NoSuchSite) f ≡ None →
     (c : Cell) × (cell_at cells i ≡ Some c) × (f c ≡ None)
 cell_in cells i f None e free = absurd (cc)
@@ -48,7 +48,7 @@ at_stage plan s i f h free =
     let t = there plan s i c.0 h c.1 in
     one_within plan i t.0 t.1
 
--- the stages of a siding that exists
+-- the stages of a siding that exists are stages of the pipeline
 siding_within : (plan : Plan) (k : ℕ) → IsAccepted plan → k < length plan.sidings → Within plan (sites plan k)
 unfolding launch_stage recover_stage
 siding_within plan k a within =
@@ -124,7 +124,7 @@ touched-within plan s Leave h free = at_stage plan s plan.stages _ h free
 touched-within plan s Exit h free = at_stage plan s 1 _ h free
 touched-within plan s Serve h free = at_stage plan s plan.stages _ h free
 
--- so each number fits
+-- so each number fits 32 bits
 pub climb-fits : (plan : Plan) (s : State) (i : ℕ) → IsProcessor plan s → row_bar plan s (Climb i) ≡ None → i + 1 ≤ 32
 climb-fits plan s i h free = let w = climb_within plan s i h free in omega (arith, w.high_in, h.accepted.stages.1)
 

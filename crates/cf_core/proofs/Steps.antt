@@ -1,4 +1,4 @@
--- A move that is made, in the words of a step.
+-- A move that is made, as a step.
 use Rattle.std.proofs.Common.{◌≡◌, ◌≢◌, Ok, refl, ap, sym, ◌∙◌}
 use Rattle.rv_machine.specs.Streams.{Streams}
 use Rattle.cf_bind.specs.declared.moves.Move.{Move}
@@ -12,7 +12,7 @@ use Rattle.cf_core.specs.Stepping.{Makes, MakesOrFails}
 use Rattle.cf_core.proofs.Quiet.{still-makes, with_rest}
 use Rattle.cf_layout.specs.Layout.{Plan}
 
--- any move but Serve leaves input and output alone
+-- any move but Serve leaves input and output unchanged
 pub next_moved : (plan : Plan) (m : Moment) (mv : Move) → mv ≢ Serve → next plan m mv ≡ record m { state = moved plan m.state mv }
 unfolding next
 next_moved plan m Serve other = absurd (other refl)

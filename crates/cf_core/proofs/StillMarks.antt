@@ -1,5 +1,5 @@
--- The moves that leave what holds of each stage as it is: those of a passenger that is spent, meetings that leave the
--- passenger as it was, and those of a packet.
+-- The moves that leave what holds of each stage as it is: those of an instruction that is spent, meetings that leave
+-- the instruction as it was, and those of a result.
 use Rattle.std.proofs.Common.{◌≡◌, ◌≢◌, ◌∙◌, ℕ, suc, ◌+◌, ◌-◌, ◌<◌, ◌≤◌, List, [], ◌∷◌, Option, Some, None, Bool, true, false, refl, sym, ap, subst, arith}
 use Rattle.std.specs.Prelude.{◌&&◌, ◌||◌, ◌==◌, nat_eq, not, if◌then◌else◌}
 use Rattle.std.proofs.lemmas.Bool.Decides.{nat_tests}
@@ -64,9 +64,9 @@ put_same : (plan : Plan) (s : State) (i : ℕ) (b c : Cell) → cell_at s.cells 
 put_same plan s i b c here same =
     one_stage plan s (with_cell s i c) i (cell-but plan s i i c) (mark_put plan s i b c here ∙ same ∙ sym (mark_is plan s i ∙ ap (mark_by plan s i) here))
 
--- Moves of a packet --
+-- Moves of a result --
 
--- the row of Launch for a passenger, beside a packet that it has still to meet or not
+-- the row of Launch for an instruction, whether or not it has still to meet a result
 abbrev entry_row : Plan → State → Bool → ℕ → Passenger → Option Bar
 entry_row plan s full i p = first_bar_of (
     (p.dead, Dead) ∷
@@ -74,7 +74,7 @@ entry_row plan s full i p = first_bar_of (
     (not (launches plan (kind p) i), NoUnit) ∷
     (is_memory (kind p) && full, NotMet) ∷ []) (source_bar p (entry_bar plan s p))
 
--- another packet changes at most whether an operation can be launched
+-- another result changes at most whether an operation can be launched
 packet_mark : (plan : Plan) (s : State) (i : ℕ) (c : Cell) (q : Option Packet) (met : Bool) →
     not (is_some (launch_bar plan s (record c { packet = q; met = met }) i)) ≡ not (is_some (launch_bar plan s c i)) →
     mark_by plan s i (Some (record c { packet = q; met = met })) ≡ mark_by plan s i (Some c)
@@ -83,7 +83,7 @@ packet_mark plan s i c q met launch =
     let m = mark_by plan s i (Some c) in
     λ x. record { owes = m.owes; stops = m.stops; execute = m.execute; launch = launch x; recover = m.recover }
 
--- where both stages are full or both are not, it does not change
+-- if both stages are full, or both are not, it does not change
 as_full : (plan : Plan) (s : State) (i : ℕ) (o : Option Passenger) (f g : Bool) → f ≡ g →
     not (is_some (on o (Some NoPassenger) (entry_row plan s f i))) ≡ not (is_some (on o (Some NoPassenger) (entry_row plan s g i)))
 as_full plan s i o f g e = ap (λ (b : Bool). not (is_some (on o (Some NoPassenger) (entry_row plan s b i)))) e
@@ -96,7 +96,7 @@ packet_gone plan s i c here clear =
     put_same plan s i c (without_packet c) here (packet_mark plan s i c None false (as_full plan s i c.passenger (is_full (without_packet c)) (is_full c)
     (gone_full c clear)))
 
--- nor where none can be launched
+-- nor does it change if no operation can be launched
 still_barred : (dead done site memory full : Bool) (rest : Option Bar) →
     not (is_some (first dead Dead (first done AlreadyDone (first (not site) NoUnit (first (memory && false) NotMet rest))))) ≡ false →
     not (is_some (first dead Dead (first done AlreadyDone (first (not site) NoUnit (first (memory && full) NotMet rest))))) ≡ false
@@ -199,14 +199,14 @@ exit_keeps plan s free = by_cell (cell_at s.cells 1) refl free
     by_cell None e row = unchanged plan s
     by_cell (Some c) e row = by_packet c c.packet refl (packet_gone plan s 1 c e (exit_tests c row))
 
--- Moves of a passenger that is spent --
+-- Moves of an instruction that is spent --
 
 spent_parts : (idle owes : Bool) → (idle && not owes) ≡ true → (idle ≡ true) × (owes ≡ false)
 spent_parts true false e = (refl, refl)
 spent_parts true true e = absurd (cc)
 spent_parts false owes e = absurd (cc)
 
--- nobody is there, or a passenger that is spent
+-- there is no instruction, or one that is spent
 abbrev is_blank : Option Passenger → Bool
 is_blank o = on o true is_spent
 
@@ -251,7 +251,7 @@ climb_keeps plan s i free spent = by_cells (cell_at s.cells i) (cell_at s.cells 
     by_cells (Some c) None e f row spent = unchanged plan s
     by_cells (Some c) (Some d) e f row spent = by_rider c d c.passenger e f refl row spent
 
--- a meeting leaves it spent
+-- an instruction that is spent is still spent after a meeting
 cancelled_spent : (dead done out owes : Bool) → ((not (not dead && not done) && not out) && not owes) ≡ true →
     ((not (not true && not done) && not out) && not false) ≡ true
 cancelled_spent dead done out owes e = grind arith
@@ -292,7 +292,7 @@ meet_keeps plan s i spent = by_cell (cell_at s.cells i) refl spent
     by_cell None e spent = unchanged plan s
     by_cell (Some c) e spent = by_rider c c.passenger e refl spent
 
--- Meetings that leave the passenger as it was --
+-- Meetings that leave the instruction as it was --
 
 kept_value : (same : Bool) (w : Option ℕ) (v : ℕ) → (not (is_some w) && same) ≡ false → (if same then or_value w v else w) ≡ w
 kept_value true None v e = absurd (cc)
@@ -329,7 +329,7 @@ met_passing p (Value r v) passed = by_dead p.dead
     by_dead true = refl
     by_dead false = garners
 
--- what does not stop cannot be launched
+-- an instruction that does not stop there cannot be launched there
 unlaunched : (dead done launched out ends site memory full : Bool) (rest : Option Bar) → (out || (not dead && not done && not launched && (ends || site)))
     ≡ false →
     not (is_some (first_bar_of ((dead, Dead) ∷ (done || launched, AlreadyDone) ∷ (not site, NoUnit) ∷ (memory && full, NotMet) ∷ []) rest)) ≡ false
@@ -385,7 +385,7 @@ meeting_keeps plan s i true stops e f keeps = meet_keeps plan s i e
 meeting_keeps plan s i false true e f keeps = absurd (cc)
 meeting_keeps plan s i false false e f keeps = passing_keeps plan s i f keeps
 
--- what leaves is spent
+-- an instruction that leaves is spent
 leave_spent : (c : Cell) (p : Passenger) → c.passenger ≡ Some p → leave_bar c ≡ None → is_spent p ≡ true
 leave_spent c p rides free = tests (is_some c.packet && not c.met) (is_some p.owes) (is_undone p) (is_out p) (rw rides at free)
   where
@@ -422,7 +422,7 @@ leave_keeps plan s free = by_cell (cell_at s.cells plan.stages) refl free
     by_cell None e row = unchanged plan s
     by_cell (Some c) e row = by_rider c c.passenger e refl row
 
--- so each of them leaves all as it is
+-- so each of these moves leaves all marks as they are
 pub moved-same : (plan : Plan) (s : State) (mv : Move) → row_bar plan s mv ≡ None → keeps_marks plan s mv ≡ true → Same plan s (moved plan s mv)
 unfolding keeps_marks
 moved-same plan s (Climb i) free keeps = climb_keeps plan s i free keeps
@@ -449,7 +449,7 @@ launch-bit plan s marks i is low within =
     let z : suc (i - 1) ≡ i = omega (arith, low) in
     rw is (bit ∙ ap (λ (n : ℕ). (mark_at plan s n).launch) z)
 
--- and whether the passenger stops there
+-- and whether the instruction stops there
 pub stop-bit : (plan : Plan) (s : State) (marks : Marks) (i : ℕ) → marks ≡ marks_of plan s → 0 < i → i ≤ plan.stages →
     has_bit marks.stops (i - 1) ≡ stops_there plan s i
 unfolding marks_of mark_at

@@ -124,7 +124,7 @@ access-but plan s =
     where_there plan s i j (last_op (siding_at s (port plan))) (accessed plan s) (λ op e.
     both plan s _ (accessed plan s op) i j (siding-but plan s (port plan) _) (rest-but plan _ (accessed plan s op) i j refl refl))
 
--- an operation is launched from the stage of its siding, and recovered at the other
+-- an operation is launched from one stage of its siding, and recovered at the other
 launch_site : (plan : Plan) (s : State) (i : ℕ) (c : Cell) (p : Passenger) (k : ℕ) → launch_bar plan s c i ≡ None → c.passenger ≡ Some p →
     siding_of plan (kind p) ≡ Some k → launch_stage plan k ≡ i
 launch_site plan s i c p k free rides home = grind (arith, nat_tests)
@@ -137,7 +137,7 @@ home_is : (plan : Plan) (s : State) (i : ℕ) (c : Cell) (p : Passenger) → cel
     home_at plan s i ≡ siding_of plan (kind p)
 home_is plan s i c p here rides = rw (here, rides) refl
 
--- the stages of a siding, or one alone
+-- nothing changes but at the two stages of a siding, or at one stage
 abbrev SameButAt : Plan → State → State → Touched → Type 0
 SameButAt plan s t at = SameBut plan s t at.low at.high
 
@@ -201,7 +201,7 @@ recover-but plan s i free = by_cell (cell_at s.cells i) refl free
     by_cell None here row = unchanged plan s i i
     by_cell (Some c) here row = by_rider c c.passenger here refl row
 
--- Serve by itself changes nothing
+-- in the table of moves Serve changes nothing by itself
 serve-but : (plan : Plan) (s : State) → SameBut plan s (moved plan s Serve) plan.stages plan.stages
 unfolding moved
 serve-but plan s = unchanged plan s plan.stages plan.stages

@@ -13,11 +13,11 @@ use Rattle.cf_sidings.specs.Sidings.{cells_in}
 use Rattle.cf_core.specs.Processors.{IsProcessor}
 use Rattle.cf_core.proofs.Berths.{length-siding}
 
--- the greater of two numbers, as it is computed
+-- the maximum of two numbers, as it is computed
 greater : (a b c : ℕ) → larger (max b a) c ≡ larger a (larger b c)
 greater a b c = grind (arith, nat_tests)
 
--- the next siding joins those before it
+-- the next siding is added to those before it
 most_next : (sidings : List SidingPlan) (k most : ℕ) → k < length sidings →
     larger (max (unwrap_or (slice_get sidings k) no_siding).cells most) (most_cells (drop (suc k) sidings)) ≡ larger most (most_cells (drop k sidings))
 unfolding most_cells
@@ -30,7 +30,7 @@ pub most-next : (plan : Plan) (k most : ℕ) → k < length plan.sidings →
 unfolding cells_of
 most-next plan k most h = let next : k + 1 ≡ suc k = omega arith in rw (next) (most_next plan.sidings k most h)
 
--- after the last nothing joins
+-- after the last siding nothing is added
 larger-none : (most : ℕ) → larger most 0 ≡ most
 larger-none most = grind (arith, nat_tests)
 
@@ -77,7 +77,7 @@ few-ops plan s k ops h e = rw (e, length-siding plan s k h) (few-cells plan k h.
 
 pub ruleset weights = (weight-next, sidings-counted, few-cells, few-ops)
 
--- the next stage joins those before it
+-- the next stage is added to those before it
 stage_next : (n d i : ℕ) (cells : List Cell) (k : ℕ) (c : Cell) → slice_get cells k ≡ Some c →
     cells_weight n d i (drop k cells) ≡ cell_weight n d i c + cells_weight n d (suc i) (drop (suc k) cells)
 stage_next n d i [] k c e = absurd (cc)

@@ -1,4 +1,5 @@
--- What the proofs of the moves use: when a move is free, what it keeps of every processor, and what belongs to one move.
+-- What the proofs of the moves use: when nothing bars a move, what it keeps of every processor, and facts about single
+-- moves.
 pub mod Allows
 pub mod KeptStages
 pub mod KeptEnds

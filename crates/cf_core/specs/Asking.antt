@@ -30,7 +30,7 @@ pub record AsksOutput (p : Processor) (mv : Move) : Type 0 where
   pub allowed : bar p.plan p.state mv ≡ None
   pub call : CallsOutput p
 
--- what a call that may ask a stream leaves of it: its count of faults rose exactly where the stream failed the call,
--- and where the call asks nothing it is as it was
+-- what a call that may ask a stream leaves of it: its count of faults rose if and only if the stream failed the call,
+-- and the stream is unchanged if the call asks nothing of it
 abbrev pub LeavesStream : {A : Type 0} → (A → ℕ) → Type 0 → A → A → Result (Unit {0}) (Unit {0}) → Type 0
 LeavesStream faults asks old new failed = HasCause (faults old) (faults new) failed × ((asks → ⊥) → new ≡ old)

@@ -1,4 +1,5 @@
--- What comes in at the two ends of the pipes, and what is changed beside them ("Counterflow Pipeline Processor Architecture", 1994).
+-- What enters at the two ends of the pipes, and what changes beside them ("Counterflow Pipeline Processor
+-- Architecture", 1994).
 use Rattle.std.specs.Prelude.{ℕ, List, ◌++◌, Option}
 use Rattle.cf_layout.specs.Layout.{Plan}
 use Rattle.cf_bind.specs.declared.binding.Binding.{Binding}
@@ -19,7 +20,7 @@ issued_at plan s pc g = fresh s.cache (fetched (isa_of plan) s.mem pc) pc g
 abbrev pub requested : State → List ℕ → State
 requested s registers = record s { lane = s.lane ++ registers }
 
--- nothing is kept for the destination any more
+-- no value is cached for the destination any more
 abbrev pub forgotten : State → Option Binding → State
 forgotten s destination = record s { cache = forgets (reg_in destination) s.cache }
 

@@ -44,7 +44,7 @@ marks_of plan s = record {
   recover = word_of (λ i. (mark_at plan s i).recover) plan.stages;
 }
 
--- the words with the bits of a stage
+-- the words with the bits of one stage replaced
 abbrev pub marked : Marks → ℕ → StageMark → Marks
 marked marks i mark = record {
   owes = with_bit marks.owes (i - 1) mark.owes;
@@ -54,7 +54,7 @@ marked marks i mark = record {
   recover = with_bit marks.recover (i - 1) mark.recover;
 }
 
--- one stage, twice
+-- one stage, as the low one and the high one
 abbrev pub one_stage : ℕ → Touched
 one_stage i = record { low = i; high = i }
 
@@ -62,7 +62,7 @@ one_stage i = record { low = i; high = i }
 abbrev pub sites : Plan → ℕ → Touched
 sites plan k = record { low = launch_stage plan k; high = recover_stage plan k }
 
--- the siding of the passenger in a stage
+-- the siding of the instruction in a stage
 abbrev pub home_at : Plan → State → ℕ → Option ℕ
 home_at plan s i = on (passenger_at s.cells i) None (λ p. siding_of plan (kind p))
 
@@ -91,17 +91,17 @@ pub record Within (plan : Plan) (t : Touched) : Type 0 where
   pub high : 0 < t.high
   pub high_in : t.high ≤ plan.stages
 
--- the words with what holds of the two stages now
+-- the words brought up to date at the two stages
 abbrev pub remarked : Plan → State → Marks → Touched → Marks
 remarked plan s marks t = marked (marked marks t.low (mark_at plan s t.low)) t.high (mark_at plan s t.high)
 
--- a passenger that does not stop there stands beside a value that it does not await
+-- the instruction does not stop there, and a value is there that it does not wait for
 abbrev pub passes_by : State → ℕ → Bool
 passes_by s i = on (passenger_at s.cells i) false (λ p. on (packet_at s.cells i) false (is_passed_by p))
 
--- the moves after which the same holds of each stage: those of a passenger that is spent, a meeting with a value that
--- is not awaited where the passenger does not stop, and those of a packet, unless it comes to where an operation can be
--- launched, which it may bar
+-- the moves after which the same holds of each stage: those of an instruction that is spent; a meeting with a value
+-- that the instruction does not wait for, if it does not stop there; and those of a result, unless it comes to a stage
+-- from which an operation can be launched, since it may bar the launch
 unfoldable pub keeps_marks : Plan → State → Move → Bool
 keeps_marks plan s (Climb i) = rides s i is_spent
 keeps_marks plan s (Meet i) = rides s i is_spent || (not (stops_there plan s i) && passes_by s i)

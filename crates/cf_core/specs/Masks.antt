@@ -1,4 +1,4 @@
--- Words of what stands at each stage and of what can be done there: bit i - 1 stands for stage i ("Counterflow Pipeline
+-- Words of what is at each stage and of what can be done there: bit i - 1 is for stage i ("Counterflow Pipeline
 -- Processor Architecture", 1994: each stage decides by itself).
 use Rattle.std.specs.Prelude.{ℕ, Bool, false, not}
 use Rattle.cf_layout.specs.Layout.{Plan}
@@ -11,11 +11,11 @@ use Rattle.cf_semantics.specs.moves.Bars.{bar, stops_at}
 use Rattle.cf_stages.specs.Words.{met_word, packet_word, passenger_word, word_of}
 use Rattle.cf_core.specs.declared.masks.Masks.{Masks}
 
--- a passenger is in the stage, and the test holds of it
+-- an instruction is in the stage, and the test holds of it
 abbrev pub rides : State → ℕ → (Passenger → Bool) → Bool
 rides s i test = on (cell_at s.cells i) false (λ c. on c.passenger false test)
 
--- it owes a packet
+-- it owes a result
 abbrev pub owes_at : State → ℕ → Bool
 owes_at s i = rides s i (λ p. is_some p.owes)
 
@@ -27,8 +27,8 @@ stops_there plan s i = rides s i (λ p. stops_at plan p i)
 abbrev pub is_allowed : Plan → State → Move → Bool
 is_allowed plan s mv = not (is_some (bar plan s mv))
 
--- the words of a state: where a passenger is, where a packet is, and where the two have met; where a passenger owes a
--- packet, and where it stops; and where Execute, Launch and Recover are allowed
+-- the words of a state: where an instruction is, where a result is, and where the two have met; where an instruction
+-- owes a result, and where it stops; and where Execute, Launch and Recover are allowed
 unfoldable pub masks_of : Plan → State → Masks
 masks_of plan s = record {
   passengers = passenger_word s.cells;

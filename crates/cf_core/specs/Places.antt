@@ -1,4 +1,4 @@
--- What a processor is with other contents, and when old contents have their place in it.
+-- A processor with other contents, and when old contents can be put back into it.
 use Rattle.std.specs.Prelude.{◌≡◌, ℕ, ◌<◌, ◌≤◌, List, Option, Some, None, IfSome, length, map, slice_get, slice_index_or}
 use Rattle.mem_regions.specs.Memory.{Memory}
 use Rattle.cf_bind.specs.declared.cell.Cell.{Cell}
@@ -42,18 +42,18 @@ pub record IsOldCell (count : ℕ) (c : OldCell) : Type 0 where
   pub within : c.stage ≤ count
   pub met : IsCell c.cell
 
--- the old contents of a cell, where the sidings have these numbers of cells
+-- the old contents of a cell, if the sidings have these numbers of cells
 pub record IsOldOp (sizes : List ℕ) (o : OldOp) : Type 0 where
   pub siding : o.siding < length sizes
   pub place : o.place < slice_index_or sizes o.siding 0
 
--- a request can be put first again
+-- a request can be put back as the first one
 abbrev pub FitsLane : Processor → OldLane → Type 0
 FitsLane p Same = Unit {0}
 FitsLane p (Taken r) = (r < 32) × (length p.state.lane < p.plan.lane)
 FitsLane p (Added n) = Unit {0}
 
--- all that is kept has its place
+-- all that is kept can be put back
 pub record CanReturn (p : Processor) (u : Undo) : Type 0 where
   pub cells : Each (IsOldCell (length p.state.cells)) u.cells
   pub ops : Each (IsOldOp (map length p.state.sidings)) u.ops

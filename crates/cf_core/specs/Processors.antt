@@ -1,4 +1,5 @@
--- A processor: its layout and its state, and what holds of every one ("Counterflow Pipeline Processor Architecture", 1994).
+-- A processor: its layout, its state, and what holds of every processor ("Counterflow Pipeline Processor Architecture",
+-- 1994).
 use Rattle.std.specs.Prelude.{◌≡◌, ℕ, List, [], Option, Some, None, IfSome, All, length, map, true}
 use Rattle.rv_inst.specs.declared.isa.Isa.{Isa}
 use Rattle.mem_regions.specs.Access.{Bounds, bounds_of}
@@ -30,7 +31,8 @@ in_state p s = record p { state = s }
 abbrev pub after_move : Processor → Move → Processor
 after_move p mv = in_state p (moved p.plan p.state mv)
 
--- what holds of a stage: its instruction is one of the set, its result is of a register other than x0, and the two have met only where both are there
+-- what holds of a stage: its instruction is one of the set, its result is of a register other than x0, and the two have
+-- met only if both are there
 pub record IsCellOfSet (isa : Isa) (c : Cell) : Type 0 where
   pub passenger : IfSome c.passenger (IsPassenger isa)
   pub packet : IfSome c.packet IsPacket
@@ -42,7 +44,7 @@ pub record IsOp (plan : Plan) (bounds : List Bounds) (k : ℕ) (op : Op) : Type 
   pub siding : siding_of plan (kind_of op.instr) ≡ Some k
   pub permitted : is_memory (kind_of op.instr) ≡ true → access_trap op.instr op.pc op.a bounds ≡ None
 
--- so it is for each cell of each siding
+-- this holds for each cell of each siding
 abbrev pub AreOps : Plan → List Bounds → ℕ → List (Option Op) → Type 0
 AreOps plan bounds k ops = All (λ o. IfSome o (IsOp plan bounds k)) ops
 
@@ -57,7 +59,7 @@ pub record IsProcessor (plan : Plan) (s : State) : Type 0 where
   pub ops : (k : ℕ) → AreOps plan (bounds_of s.mem) k (siding_at s k)
   pub lane : All IsWritable s.lane
 
--- a processor in which nothing stands, with what a machine holds
+-- a processor in which nothing is, with what a machine holds
 unfoldable pub opened_processor : Plan → Hart → Processor
 opened_processor plan hart = record { plan = plan; state = opened_on plan (record { hart = hart; rest = []; output = [] }) }
 
@@ -66,10 +68,10 @@ pub record IsOpened (core : Processor) : Type 0 where
   pub hart : Hart
   pub is : core ≡ opened_processor core.plan hart
 
--- the two have one layout and are in one state, but for the values that are kept at the bottom
+-- the two have the same layout and are in the same state, except for the cached values
 abbrev pub AreSame : Processor → Processor → Type 0
 AreSame p q = (p.plan ≡ q.plan) × IsSame p.state q.state
 
--- the same stands beside the pipes of the two: the lane, fetch and the registers
+-- the two have the same contents beside the pipes: the lane, fetch and the registers
 abbrev pub AreSameEnds : State → State → Type 0
 AreSameEnds s t = (s.lane ≡ t.lane) × (s.fetch ≡ t.fetch) × (s.regs ≡ t.regs)

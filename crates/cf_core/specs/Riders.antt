@@ -12,7 +12,7 @@ use Rattle.cf_semantics.specs.state.State.{State}
 use Rattle.cf_stages.specs.Changes.{passenger_at}
 use Rattle.cf_passengers.specs.Waiting.{first_unknown}
 
--- the instruction, of this class, stands in the stage of this number; the siding of its class is this one
+-- the instruction, of this class, is in the stage of this number; the siding of its class is this one
 abbrev pub StandsBeside : Plan → State → Passenger → Class → ℕ → ℕ → Type 0
 StandsBeside plan s p class k i =
     (0 < i) × (i ≤ plan.stages) × (passenger_at s.cells i ≡ Some p)
@@ -43,7 +43,7 @@ abbrev pub awaits : ℕ → Option Binding → Bool
 awaits r None = false
 awaits r (Some b) = not (is_some b.value) && b.reg == r
 
--- the packet is a value that it does not await
+-- the result is a value that it does not wait for
 abbrev pub is_passed_by : Passenger → Packet → Bool
 is_passed_by p (Value r v) = not (awaits r p.src1) && not (awaits r p.src2)
 is_passed_by p (Turn pc) = false

@@ -1,4 +1,4 @@
--- What is seen from outside of a meeting, by what stood in the stage before and what stands there after it.
+-- What is seen from outside of a meeting, by what was in the stage before and what is there after it.
 use Rattle.std.specs.Prelude.{Option, Bool, false, not, ◌&&◌, if◌then◌else◌}
 use Rattle.cf_bind.specs.declared.cell.Cell.{Cell}
 use Rattle.cf_bind.specs.declared.passenger.Passenger.{Passenger}
@@ -6,11 +6,11 @@ use Rattle.cf_semantics.specs.declared.event.Event.{Event}
 use Rattle.cf_semantics.specs.declared.event.Event.TheVariants as event
 use Rattle.cf_semantics.specs.state.Options.{on, is_some}
 
--- a live passenger is dead now
+-- a live instruction is dead now
 abbrev pub died : Option Passenger → Option Passenger → Bool
 died before after = on before false (λ p. on after false (λ q. not p.dead && q.dead))
 
--- the packet is gone, or the passenger died, or nothing is seen
+-- the result is gone, or the instruction died, or nothing is seen
 unfoldable pub event_seen : Cell → Cell → Event
 event_seen before after =
     if not (is_some after.packet) then event.Killed else

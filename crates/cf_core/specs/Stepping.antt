@@ -1,4 +1,5 @@
--- What a step of a processor answers and leaves ("Counterflow Pipeline Processor Architecture", 1994: every change is one local action).
+-- What a step of a processor returns and leaves ("Counterflow Pipeline Processor Architecture", 1994: every change is
+-- one local action).
 use Rattle.std.specs.Prelude.{◌≡◌, ℕ, List, [], Some, None, true, Result, Ok, Err}
 use Rattle.mem_regions.specs.Fetching.{synced}
 use Rattle.rv_inst.specs.declared.instruction.Instr.TheVariants.{Ecall}
@@ -25,7 +26,8 @@ use Rattle.cf_core.specs.declared.step.Step.TheVariants.{Moved, Barred, ReadFaul
 use Rattle.cf_core.specs.declared.fault.Fault.{Fault}
 use Rattle.cf_core.specs.declared.fault.Fault.TheVariants as fault
 
--- the move was made: the processor is at the next moment, over some rest of the input that agrees with what is told; the output that it adds was written
+-- the move was made: the processor is at the next moment, over some rest of the input that agrees with what is known of
+-- it; the output that the move adds was written
 pub record Makes (old new : Processor) (mv : Move) (before after : Streams) : Type 0 where
   pub rest : List ℕ
   pub told : IsTold before.input rest
@@ -46,7 +48,7 @@ pub record FailsToRead (old new : Processor) (before after : Streams) : Type 0 w
   pub fails : FailsReading old.state.regs old.state.mem new.state.mem before after
   pub processor : new ≡ in_state old (record old.state { mem = new.state.mem; failed = true })
 
--- the output failed the call after a front of the buffer's bytes, and the processor has failed
+-- the output failed the call after a prefix of the buffer's bytes, and the processor has failed
 pub record FailsToWrite (old new : Processor) (before after : Streams) : Type 0 where
   pub calls : CallsAtTop old
   pub fails : FailsWriting old.state.regs old.state.mem before after
@@ -58,7 +60,7 @@ ServesOrFails old new before after (Ok done) = Makes old new Serve before after
 ServesOrFails old new before after (Err fault.Read) = FailsToRead old new before after
 ServesOrFails old new before after (Err fault.Write) = FailsToWrite old new before after
 
--- the state after the passenger of the highest stage took the answer of the environment
+-- the state after the instruction in the highest stage took the answer of the environment
 abbrev pub taken : Processor → Passenger → Served → State
 taken old p (served.Value v) = record old.state { cells = changed old.state.cells old.plan.stages (λ c. with_passenger c (answered p v)) }
 taken old p (served.Exit status) =
@@ -66,11 +68,11 @@ taken old p (served.Exit status) =
 taken old p served.ReadFault = record old.state { failed = true }
 taken old p served.WriteFault = record old.state { failed = true }
 
--- the processor after FENCE.I in its highest stage: the code is what stands in memory
+-- the processor after FENCE.I in its highest stage: the code is what is in memory
 abbrev pub synchronized : Processor → Passenger → Processor
 synchronized old p = in_state old (taken (with_memory old (synced old.state.mem)) p (served.Value 0))
 
--- what Serve says of the answer
+-- the result of Serve, given the answer
 abbrev pub told_of : Served → Result (Unit {0}) Fault
 told_of (served.Value v) = Ok tt
 told_of (served.Exit status) = Ok tt
@@ -91,14 +93,14 @@ StepsOrBarred old new mv before after (Barred b) = (bar old.plan old.state mv �
 StepsOrBarred old new mv before after ReadFault = (bar old.plan old.state mv ≡ None) × (mv ≡ Serve) × FailsToRead old new before after
 StepsOrBarred old new mv before after WriteFault = (bar old.plan old.state mv ≡ None) × (mv ≡ Serve) × FailsToWrite old new before after
 
--- an error where the input failed the step
+-- an error if the input failed the step
 abbrev pub input_at_step : Step → Result (Unit {0}) (Unit {0})
 input_at_step ReadFault = Err tt
 input_at_step WriteFault = Ok tt
 input_at_step (Moved e) = Ok tt
 input_at_step (Barred b) = Ok tt
 
--- an error where the output failed it
+-- an error where the output failed the step
 abbrev pub output_at_step : Step → Result (Unit {0}) (Unit {0})
 output_at_step ReadFault = Ok tt
 output_at_step WriteFault = Err tt

@@ -47,7 +47,7 @@ abbrev pub number_kept : Option OldNumber → Option KeptBytes
 number_kept None = None
 number_kept (Some n) = Some (record { addr = n.addr; bytes = le_bytes n.width n.number })
 
--- a record as what is kept of a state before a move
+-- what a record keeps of a state before a move
 unfoldable pub kept_by : Undo → Kept
 kept_by u = record {
   move = u.made;
@@ -64,7 +64,8 @@ kept_by u = record {
 
 -- When it can be put back --
 
--- a state of a processor of this layout: what holds of every one, no more requests than the lane has room for, and nothing kept at the bottom for x0
+-- a state of a processor of this layout: what holds of every one, no more requests than the lane has room for, and no
+-- cached value for x0
 pub record CanStand (plan : Plan) (s : State) : Type 0 where
   pub facts : IsProcessor plan s
   pub room : length s.lane ≤ plan.lane
@@ -81,12 +82,12 @@ pub record HasJustMade (p : Processor) (k : Kept) : Type 0 where
 
 -- Over runs --
 
--- what is kept along a run, of the first move first
+-- what is kept along a run, beginning with the first move
 unfoldable pub kept_along : Plan → Moment → List Move → List Kept
 kept_along plan m [] = []
 kept_along plan m (mv ∷ moves) = kept plan m.state mv ∷ kept_along plan (next plan m mv) moves
 
--- a moment with all of that put back, of the last move first
+-- a moment with all of that put back, beginning with the last move
 unfoldable pub all_taken_back : Moment → List Kept → Moment
 all_taken_back m [] = m
 all_taken_back m (k ∷ ks) = taken_back (all_taken_back m ks) k

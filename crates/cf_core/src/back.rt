@@ -1,4 +1,4 @@
-//! A move is taken back: the old contents of what it wrote are put back.
+//! Taking a move back: the old contents of what it wrote are put back.
 
 ghost use Rattle.std.specs.Prelude.{◌≡◌, ◌-◌, [], ◌∷◌, IfSome, length, map, take};
 ghost use Rattle.cf_passengers.specs.Facts.{IsWritable};
@@ -13,7 +13,7 @@ use crate::processor::Processor;
 use crate::undo::{Few, OldCell, OldLane, OldOp, OldRegister, Undo};
 use cf_ends::Ends;
 
-/// Takes the last requests out: this many, or all where there are fewer.
+/// Takes the last requests out: this many, or all if there are fewer.
 fn cut_lane(ends: &mut Ends, count: u32)
     ensures { ends.new ≡ record ends.old { lane = take (length ends.old.lane - count) ends.old.lane } }
 {

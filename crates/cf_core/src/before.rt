@@ -1,4 +1,4 @@
-//! What a move is about to write is kept.
+//! Keeping what a move is about to write.
 
 ghost use Rattle.std.specs.Prelude.{◌≡◌, ◌≢◌, ◌<◌, ◌≤◌, [], ◌∷◌, None, length, map};
 ghost use Rattle.rv_inst.specs.Operands.{class_of};
@@ -20,7 +20,7 @@ use cf_passengers::{kind, requests};
 use rv_inst::access_of;
 
 impl Processor {
-    /// What stands in the stage.
+    /// What is in the stage.
     fn old_cell(&self, i: u32) -> OldCell
         requires above { 0 < i }
         requires within { i ≤ length self.now.state.cells }
@@ -32,7 +32,7 @@ impl Processor {
         }
     }
 
-    /// What stands in the stages that the move writes.
+    /// What is in the stages that the move writes.
     fn old_cells(&self, m: Move) -> Few<OldCell>
         requires facts { IsProcessor self.now.plan self.now.state }
         requires allowed { row_bar self.now.plan self.now.state m ≡ None }
@@ -49,7 +49,7 @@ impl Processor {
         }
     }
 
-    /// What stands in the cell of a siding.
+    /// What is in the cell of a siding.
     fn old_op(&self, k: u32, c: u32) -> OldOp
         requires facts { IsProcessor self.now.plan self.now.state }
         requires siding { k < length self.now.plan.sidings }
@@ -75,7 +75,7 @@ impl Processor {
         }
     }
 
-    /// What stands in the cells of sidings that the move writes.
+    /// What is in the cells of sidings that the move writes.
     fn old_ops(&self, m: Move) -> Few<OldOp>
         requires facts { IsProcessor self.now.plan self.now.state }
         requires allowed { row_bar self.now.plan self.now.state m ≡ None }
@@ -98,7 +98,7 @@ impl Processor {
         }
     }
 
-    /// How many requests the instruction adds that is issued with the guess.
+    /// How many requests are added by the instruction that is issued with the guess.
     fn added(&self, guess: Guess) -> OldLane
         ensures { lane_kept result ≡ kept_lane self.now.plan self.now.state (mv.Issue guess) }
     {
@@ -123,7 +123,7 @@ impl Processor {
         }
     }
 
-    /// What stands in the register that the instruction of the highest stage writes, where it writes one.
+    /// What is in the register that the instruction in the highest stage writes, if it writes one.
     fn written(&self) -> Option<OldRegister>
         requires { IsProcessor self.now.plan self.now.state }
         ensures { register_kept result ≡ kept_register self.now.plan self.now.state mv.Leave }
@@ -135,7 +135,7 @@ impl Processor {
         })
     }
 
-    /// What stands in the register that the move writes.
+    /// What is in the register that the move writes.
     fn old_register(&self, m: Move) -> Option<OldRegister>
         requires { IsProcessor self.now.plan self.now.state }
         ensures { register_kept result ≡ kept_register self.now.plan self.now.state m }
@@ -148,7 +148,7 @@ impl Processor {
         }
     }
 
-    /// What stands in memory where the operation, a load or a store, writes.
+    /// What is in memory where the operation, a load or a store, writes.
     #[tactic(auto, using(crate::proofs::Widths::widths))]
     fn under(&self, op: Op) -> Option<OldNumber>
         requires { class_of op.instr ≡ Classes.Memory }
@@ -166,7 +166,7 @@ impl Processor {
         })
     }
 
-    /// What stands in memory where the move writes.
+    /// What is in memory where the move writes.
     fn old_number(&self, m: Move) -> Option<OldNumber>
         requires facts { IsProcessor self.now.plan self.now.state }
         requires allowed { row_bar self.now.plan self.now.state m ≡ None }
@@ -205,8 +205,8 @@ impl Processor {
 }
 
 impl Core {
-    /// The move with the old contents of what it writes, so that [`Core::back`] can take it back once it was made. Serve cannot
-    /// be taken back, for its output is gone.
+    /// The move with the old contents of what it writes, so that [`Core::back`] can take it back once it was made.
+    /// Serve cannot be taken back, since its output is gone.
     pub fn before(&self, m: Move) -> Undo
         requires allowed { first_bar self.now.plan self.now.state m ≡ None }
         requires other { m ≢ mv.Serve }

@@ -36,9 +36,9 @@ use std::marker::Model;
 /// seen as its layout and its state. It changes only by `make`, `make_inside`, `step` and `back`: one local move is made, or taken back.
 /// No call but `new` takes memory.
 ///
-/// It holds of every processor that each instruction in the pipes is one of its instruction set, or ends the program where
-/// none could be read, that each operation in a siding is of a class of the siding, and that memory permits
-/// each load and store there.
+/// It holds of every processor that each instruction in the pipes is one of its instruction set, or ends the program if
+/// none could be read; that each operation in a siding is of a class of the siding; and that memory permits each load
+/// and store there.
 #[derive(Drop)]
 pub struct Core {
     pub(crate) processor: Processor,
@@ -58,8 +58,8 @@ impl Model for Core {
 }
 
 impl Core {
-    /// A processor of this layout in which nothing stands: it fetches at the program counter of the machine and has its
-    /// registers, memory and retired count. Where there is no memory for its parts the machine is dropped.
+    /// An empty processor of this layout: it fetches at the program counter of the machine and has its registers,
+    /// memory and retired count. If there is no memory for its parts, the machine is dropped.
     #[tactic(auto, using(crate::proofs::Opened::opening), unfolding(crate::specs::Processors::opened_processor, cf_semantics::specs::runs::Runs::opened, cf_sidings::specs::Sidings::empty_sidings))]
     pub fn new(alloc: Global, layout: Layout, machine: Machine) -> Result<Core, AllocError>
         ensures { IfOk result (λ core. core ≡ opened_processor layout machine) }
@@ -94,7 +94,7 @@ impl Core {
         &self.processor.layout
     }
 
-    /// What stands in the stage of this number, counted from 1 at the bottom.
+    /// What is in the stage of this number, counted from 1 at the bottom.
     #[inline(always)]
     #[tactic(auto, using(crate::proofs::Cells::reading))]
     pub fn stage(&self, i: u32) -> Cell
@@ -106,7 +106,7 @@ impl Core {
         self.processor.stages.cell(i)
     }
 
-    /// What stands in a cell of a siding; sidings and cells are counted from 0.
+    /// What is in a cell of a siding; sidings and cells are counted from 0.
     #[inline(always)]
     #[tactic(auto, using(crate::proofs::Berths::berths, crate::proofs::Berths::reading))]
     pub fn siding_cell(&self, k: u32, c: u32) -> Option<Op>
@@ -118,7 +118,7 @@ impl Core {
         self.processor.sidings.cell(k, c)
     }
 
-    /// The cells of a siding, from the one by which operations enter; sidings are counted from 0.
+    /// The cells of a siding, beginning with the one at which operations enter; sidings are counted from 0.
     #[inline(always)]
     #[tactic(auto, using(crate::proofs::Berths::berths, crate::proofs::Berths::reading))]
     pub fn siding(&self, k: u32) -> &[Option<Op>]
@@ -146,7 +146,7 @@ impl Core {
         self.processor.ends.lane_len()
     }
 
-    /// The register of a request, counted from the one to be answered next.
+    /// The register of a request; index 0 is the one to be answered next.
     #[inline(always)]
     pub fn lane_at(&self, j: u32) -> u8
         requires { j < length self.now.state.lane }
@@ -174,7 +174,7 @@ impl Core {
         self.processor.ends.regs()
     }
 
-    /// The value that is kept at the bottom for a register, if any.
+    /// The cached value of a register, if there is one.
     #[inline(always)]
     pub fn cached(&self, r: u8) -> Option<u32>
         requires { r < 32 }
@@ -215,14 +215,14 @@ impl Core {
         self.processor.failed
     }
 
-    /// Makes an allowed move, without testing its bars again, and answers what is seen of it from outside.
+    /// Makes an allowed move, without testing its bars again, and returns what is seen of it from outside.
     ///
     /// An error comes only from Serve with ECALL in the highest stage, where the input or the output failed the call of the
     /// environment: the processor bars every move from then on, the guest's buffer is as [`rv_machine::serve`] leaves it, and
     /// all else is as before.
     ///
-    /// The input is asked only by Serve where the instruction in the highest stage is an ECALL whose call asks the input; the
-    /// output likewise. Every other move leaves both as they are, whatever they tell of themselves.
+    /// Only Serve asks the input, and only if the instruction in the highest stage is an ECALL whose call asks the
+    /// input. The same holds of the output. Every other move leaves both unchanged, whatever they expose.
     #[inline(always)]
     #[tactic(auto, using(crate::proofs::moves::KeptServe::making))]
     pub fn make<S: Source, K: Sink>(
@@ -278,8 +278,9 @@ impl Core {
     /// the input or the output failed the call of the environment: the processor bars every move from then on, the guest's
     /// buffer is as [`rv_machine::serve`] leaves it, and all else is as before.
     ///
-    /// The input is asked only by Serve, where nothing bars it and the instruction in the highest stage is an ECALL whose call
-    /// asks the input; the output likewise. Every other move leaves both as they are, whatever they tell of themselves.
+    /// Only Serve asks the input, and only if nothing bars it and the instruction in the highest stage is an ECALL
+    /// whose call asks the input. The same holds of the output. Every other move leaves both unchanged, whatever they
+    /// expose.
     #[inline(always)]
     #[tactic(auto, unfolding(crate::specs::Stepping::StepsOrBarred, crate::specs::Stepping::MakesOrFails))]
     pub fn step<S: Source, K: Sink>(&mut self, m: Move, input: &mut S, output: &mut K) -> Step
@@ -302,7 +303,7 @@ impl Core {
         }
     }
 
-    /// The first bar of the move's row in the table of moves; `None` where it can be made.
+    /// The first bar of the move's row in the table of moves; `None` if it can be made.
     #[inline(always)]
     pub fn allowed(&self, m: Move) -> Option<Bar>
         ensures { result ≡ first_bar self.now.plan self.now.state m }

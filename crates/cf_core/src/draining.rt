@@ -1,4 +1,4 @@
-//! Whether anything stands in the processor.
+//! Whether anything is in the processor.
 
 ghost use Rattle.std.specs.Prelude.{◌≡◌};
 ghost use Rattle.cf_semantics.specs.state.Drained.{is_drained, is_empty};

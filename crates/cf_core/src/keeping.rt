@@ -15,7 +15,7 @@ use cf_bind::Move;
 use cf_stages::has_bit;
 
 impl Processor {
-    /// Whether an instruction is in the stage, and has nothing left to do but to climb and to leave.
+    /// Whether an instruction is in the stage and has nothing left to do but to climb and to leave.
     #[inline(always)]
     fn is_spent_at(&self, i: u32) -> bool
         requires above { 0 < i }
@@ -56,9 +56,9 @@ impl Processor {
         has_bit(marks.stops, i)
     }
 
-    /// Whether an allowed move leaves the marks of all stages as they are. Most moves do: the moves of an instruction that has
-    /// nothing left to do; a meeting with a value that the instruction does not wait for, where it may climb on; and the moves
-    /// of a result. But a result that comes to a stage with an operation to launch may bar the launch.
+    /// Whether an allowed move leaves the marks of all stages as they are. Most moves do: the moves of an instruction
+    /// that has nothing left to do; a meeting with a value that the instruction does not wait for, if it may climb on;
+    /// and the moves of a result. But a result that comes to a stage with an operation to launch may bar the launch.
     #[inline(always)]
     #[tactic(auto, using(crate::proofs::Sites::moving), unfolding(crate::specs::Marks::keeps_marks))]
     pub(crate) fn keeps_marks(&self, marks: Marks, m: Move) -> bool

@@ -58,9 +58,9 @@ pub fn t4_1()
         IsSoundAfter plan x (run plan (start plan x) moves) }
 {}
 
-/// What is seen of a run is what the sequential machine does: retired instructions, registers and ending at each moment;
-/// the output, at most one call ahead; and the memory, ahead by the accesses that have passed the port. Neither is ahead
-/// where the program has ended or nothing stands in the processor.
+/// What is seen of a run is what the sequential machine does: retired instructions, registers and ending at each
+/// moment; the output, at most one call ahead; and the memory, ahead by the accesses that have passed the port. Neither
+/// is ahead if the program has ended or nothing is in the processor.
 pub fn t4_2()
     ensures { (plan : Plan) (x : Sequential) (moves : List Move) → IsAccepted plan → length x.hart.regs ≡ 32 →
         IsRun plan (start plan x) moves →
@@ -74,7 +74,7 @@ pub fn t4_3()
         KeepsOrActsOnPath plan x (run plan (start plan x) moves) mv }
 {}
 
-/// The retirement lines of two runs of one program, under any two layouts and orders of moves: one list is a prefix
+/// Of the retirement lines of two runs of one program, under any two layouts and orders of moves, one list is a prefix
 /// of the other.
 pub fn t4_4()
     ensures { (plan other : Plan) (x : Sequential) (moves others : List Move) → IsAccepted plan → IsAccepted other →
@@ -93,15 +93,15 @@ pub fn t5_1()
         IsRun plan (start plan x) moves → length moves ≤ moves_per_issue plan * issues moves }
 {}
 
-/// Where no move but Issue is allowed and the program has not ended, the processor is drained at the sequential machine,
+/// If no move but Issue is allowed and the program has not ended, the processor is drained at the sequential machine,
 /// and the next instruction can be issued.
 pub fn t5_2()
     ensures { (plan : Plan) (x : Sequential) (m : Moment) → IsAccepted plan → length x.hart.regs ≡ 32 → IsReached plan x m →
         m.state.ending ≡ None → IsStuck plan m.state → Rests plan x m }
 {}
 
-/// With issue held back every run of moves has at most as many moves as the weight; where it cannot be extended, it ends as
-/// the state from which it starts says.
+/// With Issue held back every run has at most as many moves as the weight. If such a run is maximal, it ends in a way
+/// that the state from which it starts determines.
 pub fn t5_3()
     ensures bounded { (plan : Plan) (x : Sequential) (m : Moment) (moves : List Move) → IsAccepted plan →
         length x.hart.regs ≡ 32 → IsReached plan x m → IsRun plan m moves → issues moves ≡ 0 →
@@ -127,7 +127,7 @@ pub fn t5_5()
         bar plan (next plan m a).state b ≡ None → bar plan m.state b ≡ None }
 {}
 
-/// In a drained state each value that is kept at the bottom is its register's.
+/// In a drained state each cached value is its register's.
 pub fn t5_7()
     ensures { (plan : Plan) (x : Sequential) (m : Moment) → IsAccepted plan → length x.hart.regs ≡ 32 → IsReached plan x m →
         m.state.ending ≡ None → is_drained m.state ≡ true → KeepsRegisters m.state }
@@ -140,15 +140,17 @@ pub fn moves_are_taken_back()
         taken_back (next plan m mv) (kept plan m.state mv) ≡ m }
 {}
 
-/// The moves of a run are taken back one after another, the last first, if none of them is Serve: at the end all is as before.
+/// The moves of a run, none of which is Serve, are taken back one after another, beginning with the last: at the end
+/// all is as before.
 pub fn runs_are_taken_back()
     ensures { (plan : Plan) (m : Moment) (moves : List Move) → IsRun plan m moves → All (λ mv. mv ≢ Serve) moves →
         all_taken_back (run plan m moves) (kept_along plan m moves) ≡ m }
 {}
 
-/// The refinement move by move. Seen through count, registers and ending a move is no step of the sequential machine, or it is
-/// Leave, and exactly the machine's next step; seen through input and output only Serve is a step, and seen through memory
-/// only Access and Serve. A rank, the weight, falls at each move but Issue, which no view sees.
+/// The refinement move by move. In the view of count, registers and ending a move is either not a step of the
+/// sequential machine, or it is Leave and is the machine's next step. In the view of input and output only Serve is a
+/// step, and in the view of memory only Access and Serve are. A rank, the weight, falls at each move but Issue, which
+/// no view sees.
 pub fn stutters()
     ensures views { (plan : Plan) (x : Sequential) (m : Moment) (mv : Move) → IsAccepted plan → length x.hart.regs ≡ 32 →
         IsReached plan x m → bar plan m.state mv ≡ None → Stutters plan x m mv }
@@ -157,8 +159,8 @@ pub fn stutters()
         suc (weight plan (next plan m mv).state) ≤ weight plan m.state }
 {}
 
-/// The line that a run is compared with, that of a step of the sequential machine, is shown by the very line that the step gives,
-/// and by no other.
+/// The line that a run is compared with, that of a step of the sequential machine, is shown by the line that the step
+/// gives, and by no other.
 pub fn own_lines()
     ensures { (isa : Isa) (x n : Sequential) (own shown : Retired) → step isa x ≡ Next n own → own.word < 2 ^ 32 →
         Shows (line_read isa own) own × (Shows (line_read isa own) shown → shown ≡ own) }

@@ -1,4 +1,4 @@
-//! The marks of a stage by what stands there now.
+//! The marks of a stage, by what is there now.
 
 ghost use Rattle.std.specs.Prelude.{◌≡◌, None, Some, ◌<◌, ◌≤◌, true};
 ghost use Rattle.cf_layout.specs.Layout.{siding_of};
@@ -58,7 +58,7 @@ impl Processor {
         }
     }
 
-    /// The marks of the stage in which this instruction stands.
+    /// The marks of the stage that has this instruction.
     #[inline(always)]
     #[tactic(auto, using(crate::proofs::Tabled::sites))]
     pub(crate) fn mark_of(&self, passenger: &Passenger, i: u32) -> StageMark

@@ -52,7 +52,7 @@ pub(crate) struct Marks {
 }
 
 impl Marks {
-    /// The marks of a pipeline in which nothing stands.
+    /// The marks of an empty pipeline.
     pub(crate) fn none() -> Marks
         ensures { result ≡ record { owes = 0; stops = 0; execute = 0; launch = 0; recover = 0 } }
     {

@@ -8,7 +8,7 @@ ghost use Rattle.cf_core.specs.Masks.{masks_of};
 use crate::counterflow::Core;
 use crate::processor::Processor;
 
-/// What stands at each stage and what can be done there, a word for each fact: bit i - 1 for stage i.
+/// What is at each stage and what can be done there, a word for each fact: bit i - 1 for stage i.
 #[derive(Clone, Copy, PartialEq, Eq)]
 pub struct Masks {
     /// An instruction is there.
@@ -36,7 +36,7 @@ pub struct Masks {
     pub recover: u32,
 }
 
-/// The word where the processor goes on, and no stage where it does not.
+/// The word if the processor goes on, and no stage otherwise.
 #[inline(always)]
 fn where_on(goes_on: bool, word: u32) -> u32
     ensures { result ≡ (if goes_on then word else 0) }

@@ -1,8 +1,8 @@
 //! The table of moves: what bars each move, and what it does.
 //!
-//! The row of each move has a file of its own in `moves/`. It holds the function that answers the first bar, for a caller that
-//! names a move; the test whether nothing bars it, for a policy, which asks this of every move at each step and needs no
-//! reason; and the effect. A fact about a stage that only one move asks for stands there too.
+//! The row of each move has a file of its own in `moves/`. It holds the function that returns the first bar, for a
+//! caller that names a move; the test whether nothing bars the move, for a policy, which tests every move at each step
+//! and needs no reason; and the effect. A fact about a stage that only one move needs is there too.
 
 mod access;
 mod climb;
@@ -75,8 +75,8 @@ impl Processor {
         }
     }
 
-    /// Makes an allowed move, which is not Serve, and answers what is seen of it.
-    // Rare moves stay calls; the frequent ones become a part of the loop of a run.
+    /// Makes an allowed move, which is not Serve, and returns what is seen of it.
+    // Rare moves remain calls; the frequent ones become part of the loop of a run.
     #[inline(always)]
     pub(crate) fn make_inside(&mut self, m: Move) -> Event
         requires facts { IsProcessor self.old.plan self.old.state }
@@ -105,7 +105,7 @@ impl Processor {
         Event::Plain
     }
 
-    /// Makes an allowed move, and answers what is seen of it, or that the input or the output failed it.
+    /// Makes an allowed move, and returns what is seen of it, or that the input or the output failed it.
     #[inline(always)]
     #[tactic(auto, using(crate::proofs::Steps::stepping), unfolding(cf_semantics::specs::moves::Bars::bar, crate::specs::Stepping::MakesOrFails))]
     pub(crate) fn make<S: Source, K: Sink>(

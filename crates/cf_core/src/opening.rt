@@ -1,4 +1,4 @@
-//! Whether the processor is as one that was opened.
+//! Whether the processor is as one that was just opened.
 
 ghost use Rattle.std.specs.Prelude.{◌≡◌, ◌↔◌, IsTrue, length};
 ghost use Rattle.std.specs.List.{list_any};
@@ -35,8 +35,8 @@ impl Processor {
 }
 
 impl Core {
-    /// Whether the processor is as one that was opened on some machine and has made no move since: nothing is in the pipes,
-    /// in the lane or in a siding, fetch runs, the register cache is empty, and the program has neither ended nor failed.
+    /// Whether the processor is as if it had just been opened on some machine: nothing is in the pipes, in the lane or
+    /// in a siding, fetch runs, the register cache is empty, and the program has neither ended nor failed.
     #[tactic(auto, using(crate::proofs::NewlyOpened::openings))]
     pub fn is_opened(&self) -> bool
         ensures { IsTrue result ↔ IsOpened self.now }

@@ -8,7 +8,7 @@ use crate::processor::Processor;
 use cf_bind::Cell;
 
 impl Processor {
-    /// What stands in the lowest stage.
+    /// What is in the lowest stage.
     #[inline(always)]
     pub(crate) fn bottom(&self) -> Cell
         requires { IsProcessor self.now.plan self.now.state }
@@ -17,7 +17,7 @@ impl Processor {
         self.stages.cell(1)
     }
 
-    /// What stands in the highest stage.
+    /// What is in the highest stage.
     #[inline(always)]
     pub(crate) fn top(&self) -> Cell
         requires { IsProcessor self.now.plan self.now.state }

@@ -40,8 +40,8 @@ impl Model for Processor {
 }
 
 impl Processor {
-    /// Does nothing: it is called for its contract. A proof knows that the layout is an accepted one, and so how many
-    /// stages there can be, only where the function calls the layout, and a function that reads only the stages or the
+    /// Does nothing; it is called for its contract. A proof knows that the layout is an accepted one, and so how many
+    /// stages there can be, only if the function calls the layout, and a function that reads only the stages or the
     /// marks does not.
     #[inline(always)]
     pub(crate) fn know_stages(&self)

@@ -32,7 +32,7 @@ pub(crate) fn first_of(rows: &[(bool, Bar)]) -> Option<Bar>
 
 impl Processor {
     /// The instruction of the stage; or the bar with which each row of its moves begins: there is no such stage, or no
-    /// instruction stands there.
+    /// instruction is there.
     #[inline(always)]
     pub(crate) fn rider(&self, i: u32) -> Result<Passenger, Bar>
         requires { IsProcessor self.now.plan self.now.state }

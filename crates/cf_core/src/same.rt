@@ -62,7 +62,7 @@ impl Processor {
         true
     }
 
-    /// Whether what stands beside the pipes is the same: the lane, fetch and the registers.
+    /// Whether what is beside the pipes is the same: the lane, fetch and the registers.
     fn same_ends(&self, other: &Processor) -> bool
         ensures { IsTrue result ↔ AreSameEnds self.now.state other.now.state }
     {
@@ -73,9 +73,9 @@ impl Processor {
 }
 
 impl Core {
-    /// Whether the two processors are the same but for the values that are kept at the bottom: in the layout, the stages,
-    /// the sidings, the lane, fetch, the registers, the memory with its code and break, the retired count, the ending, and
-    /// whether input or output has failed.
+    /// Whether the two processors are the same except for the cached values: in the layout, the stages, the sidings,
+    /// the lane, fetch, the registers, the memory with its code and break, the retired count, the ending, and whether
+    /// input or output has failed.
     pub fn same(&self, other: &Core) -> bool
         ensures { IsTrue result ↔ AreSame self.now other.now }
     {

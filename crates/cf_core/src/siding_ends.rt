@@ -20,7 +20,7 @@ pub(crate) fn is_memory(class: Class) -> bool
 }
 
 impl Processor {
-    /// How many cells the siding of that number has: none where there is no such siding.
+    /// How many cells the siding of that number has: none if there is no such siding.
     #[inline(always)]
     #[tactic(auto, using(crate::proofs::Berths::berths))]
     pub(crate) fn cells_in(&self, k: u32) -> u32

@@ -1,9 +1,9 @@
-//! What a step of the processor answers.
+//! The outcome of a step of the processor.
 
 use cf_bind::Bar;
 use cf_semantics::Event;
 
-/// What a step of the processor answers.
+/// The outcome of a step of the processor.
 #[derive(Clone, Copy, PartialEq, Eq)]
 pub enum Step {
     /// The move was made, and this is what is seen of it.

@@ -40,7 +40,7 @@ impl Processor {
         }
     }
 
-    /// The stages of the siding of the instruction in a stage, or that stage alone where it has none.
+    /// The stages of the siding of the instruction in a stage, or that stage alone if it has none.
     #[inline(always)]
     fn home(&self, i: u32) -> Touched
         requires above { 0 < i }

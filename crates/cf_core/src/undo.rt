@@ -14,14 +14,14 @@ pub(crate) enum Few<T> {
     Two(T, T),
 }
 
-/// What stood in a stage.
+/// What was in a stage.
 #[derive(Clone, Copy)]
 pub(crate) struct OldCell {
     pub(crate) stage: u32,
     pub(crate) cell: Cell,
 }
 
-/// What stood in a cell of a siding.
+/// What was in a cell of a siding.
 #[derive(Clone, Copy)]
 pub(crate) struct OldOp {
     pub(crate) siding: u32,
@@ -42,15 +42,16 @@ pub(crate) enum OldLane {
     Added(u32),
 }
 
-/// What stood in a register.
+/// What was in a register.
 #[derive(Clone, Copy)]
 pub(crate) struct OldRegister {
     pub(crate) reg: u8,
     pub(crate) value: u32,
 }
 
-/// A move with the old contents of what it writes: the stages, the cells of the siding, the lane, fetch, what was kept at the
-/// bottom, the register, the bytes of memory, the retired count and the ending. [`Core::before`](crate::Core::before) makes it.
+/// A move with the old contents of what it writes: the stages, the cells of the siding, the lane, fetch, the cached
+/// values, the register, the bytes of memory, the retired count and the ending. [`Core::before`](crate::Core::before)
+/// makes it.
 #[derive(Clone, Copy)]
 pub struct Undo {
     pub(crate) made: Move,

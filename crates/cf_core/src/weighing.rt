@@ -1,4 +1,4 @@
-//! The weight of what stands in the processor, which each move but Issue lowers.
+//! The weight of what is in the processor, which each move but Issue lowers.
 
 ghost use Rattle.std.specs.Prelude.{◌≡◌, ◌+◌, ◌*◌, ◌<◌, ◌≤◌, length};
 ghost use Rattle.cf_semantics.specs.claims.Weight.{counts as counts_where, most_cells, passenger_weight as weight_of_passenger, cell_weight as weight_of_cell, cells_weight as weight_of_cells, op_weight as weight_of_op, siding_weight as weight_of_siding, sidings_weight as weight_of_sidings, weight};
@@ -10,7 +10,7 @@ use cf_bind::{Cell, Op, Passenger};
 use cf_stages::Stages;
 use rv_inst::{Class, class_of};
 
-/// The number where the test holds, else 0.
+/// The number if the test holds, otherwise 0.
 #[inline(always)]
 fn counts(test: bool, number: u64) -> u64
     ensures number { result ≡ counts_where test number }
@@ -45,7 +45,7 @@ fn passenger_weight(passenger: &Passenger, place: Place) -> u64
         + counts(passenger.owes.is_some(), 2 * place.stages)
 }
 
-/// The weight of what stands in a stage.
+/// The weight of what is in a stage.
 #[inline(always)]
 #[tactic(auto, unfolding(cf_semantics::specs::claims::Weight::cell_weight))]
 fn cell_weight(cell: &Cell, place: Place) -> u64
@@ -64,7 +64,7 @@ fn cell_weight(cell: &Cell, place: Place) -> u64
     climbing + counts(cell.packet.is_some(), 2 * place.stage - 1) + counts(full, 1)
 }
 
-/// The weight of what stands in the stages.
+/// The weight of what is in the stages.
 #[inline(always)]
 #[tactic(auto, using(crate::proofs::Weights::stages))]
 fn cells_weight(stages: &Stages, cells: u64) -> u64
@@ -88,7 +88,7 @@ fn cells_weight(stages: &Stages, cells: u64) -> u64
     weight
 }
 
-/// The weight of what stands in the cell of this index in a siding of this many cells.
+/// The weight of what is in the cell of this index in a siding of this many cells.
 #[inline(always)]
 #[tactic(auto, unfolding(cf_semantics::specs::claims::Weight::op_weight, cf_semantics::specs::moves::Instructions::kind_of))]
 fn op_weight(op: &Option<Op>, index: u64, count: u64) -> u64
@@ -106,7 +106,7 @@ fn op_weight(op: &Option<Op>, index: u64, count: u64) -> u64
     }
 }
 
-/// The weight of what stands in a siding.
+/// The weight of what is in a siding.
 #[inline(always)]
 fn siding_weight(cells: &[Option<Op>]) -> u64
     requires { length cells.now ≤ 8 }
@@ -136,7 +136,7 @@ impl Processor {
         u64::from(most)
     }
 
-    /// The weight of what stands in the sidings.
+    /// The weight of what is in the sidings.
     #[inline(always)]
     #[tactic(auto, using(crate::proofs::Weights::weights))]
     fn sidings_weight(&self) -> u64
@@ -153,8 +153,8 @@ impl Processor {
 }
 
 impl Core {
-    /// The weight of what stands in the processor. Each move but Issue lowers it, so that no more moves than this can be
-    /// made before the next Issue.
+    /// The weight of what is in the processor. Each move but Issue lowers it, so at most this many moves can be made
+    /// before the next Issue.
     #[tactic(auto, unfolding(cf_semantics::specs::claims::Weight::weight))]
     pub fn bound(&self) -> u64
         ensures { result ≡ weight self.now.plan self.now.state }

@@ -1,4 +1,4 @@
--- Where a session is left whose output failed a call: at the moment where it was to be served.
+-- Where a session ends if its output failed a call: at the moment where the call was to be served.
 use Rattle.std.proofs.Common.{◌≡◌, ℕ, ◌++◌, List, [], Option, Some, None, true, sym, ap, subst, ◌∙◌, take}
 use Rattle.cf_io.specs.Puts.{Writes, WritesFront}
 use Rattle.cf_io.proofs.Owing.{writes-again}
@@ -29,7 +29,7 @@ unwritten begin old new m before after same h =
     ∙ ap (λ (p : Processor). record p.state { failed = true }) same in
     record { regs = ap (λ (s : State). s.regs) is; retired = ap (λ (s : State). s.retired) is; ending = ap (λ (s : State). s.ending) is }
 
--- what was written where a prefix was, and whether the output exposes it or not
+-- what was written if a prefix was, whether or not the output exposes it
 written_front : (before after : Option (List ℕ)) (bytes : List ℕ) → WritesFront before after bytes → (n : ℕ) × Writes before after (take n bytes)
 written_front None after bytes front = (0, tt)
 written_front (Some told) after bytes front = (front.0, front.2)
@@ -54,7 +54,7 @@ aground x m begin now new accepted kept stands free h =
       front = front-after begin.core.plan x m bytes part.0 accepted kept.held allowed fails.calls fails.fails.asks fails.fails.buffer;
     }
 
--- so a session whose output failed is left on its run
+-- so a session whose output failed ends on its run
 pub stands-aground : (start : Processor) (blank : Option (List ℕ)) (mv : Move) (now new : ProcessorState) → IsAccepted start.plan →
     StandsNow start blank now → FailsOne mv now new → IsOnRun start new.core blank new.output WriteFault
 stands-aground start blank mv now new accepted h f =

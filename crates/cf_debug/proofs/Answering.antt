@@ -1,4 +1,4 @@
--- What commands and lines leave, from what their parts leave.
+-- The outcome of commands and lines, from the outcomes of their parts.
 use Rattle.std.proofs.Common.{◌≡◌, ◌≢◌, ℕ, zero, suc, ◌+◌, List, [], ◌∷◌, ◌++◌, Option, Some, None, Ok, Err, refl, sym, ap, subst, ◌∙◌, append-nil, append_assoc, inl, inr, arith}
 use Rattle.std.specs.Prelude.{Result, codes}
 use Rattle.std.specs.Result.{IsErrAnd}
@@ -39,7 +39,7 @@ unfolding CommandLeaves
 carries-told command now new text written after i j (Ok done) all part put = (text, all, put.all)
 carries-told command now new text written after i j (Err failed) all part put = (text, part, put.front)
 
--- the output did not fail then, and the report exactly where the text did
+-- the output did not fail then, and the report failed exactly if writing the text did
 pub told-still : (faults : ℕ) (answer : Result (Unit {0}) Failed) → HasCause faults faults (output_broken (of_report answer))
 told-still faults (Ok done) = record { never_falls = omega arith; rose = tt; still = refl }
 told-still faults (Err failed) = record { never_falls = omega arith; rose = tt; still = refl }
@@ -58,13 +58,13 @@ pub carries-nothing : (command : DebugCommand) (now : DebuggerState) (written : 
 unfolding CommandLeaves
 carries-nothing command now written h = ([], h, nothing_put written)
 
--- with the answer that is given
+-- the same with an equal answer
 pub as-told : (command : DebugCommand) (now new : DebuggerState) (written after : Option (List ℕ)) (answer : Result (Unit {0}) Failed)
     (told : Result (Unit {0}) Broken) → told ≡ of_report answer → CommandLeaves command now new written after (of_report answer) →
     CommandLeaves command now new written after told
 as-told command now new written after answer told is h = subst (CommandLeaves command now new written after) (sym is) h
 
--- of the command that it is
+-- the same with an equal command
 pub as-command : (command other : DebugCommand) (now new : DebuggerState) (written after : Option (List ℕ)) (answer : Result (Unit {0}) Broken) →
     command ≡ other → CommandLeaves other now new written after answer → CommandLeaves command now new written after answer
 as-command command other now new written after answer is h = subst (λ (c : DebugCommand). CommandLeaves c now new written after answer) (sym is) h
@@ -185,7 +185,7 @@ carries-back n core new ring later output stop written after (Err failed) (text,
 
 -- Lines --
 
--- what a command leaves ends the session in this way
+-- the outcome of a command ends the session in this way
 pub ends-command : (line : List ℕ) (command : DebugCommand) (now new : DebuggerState) (written after : Option (List ℕ)) (answer : Result (Unit {0}) Broken) →
     command_in line ≡ Ok command → command ≢ End → CommandLeaves command now new written after answer → LineLeaves line now new written after (ended_by answer)
 unfolding LineLeaves CommandLeaves AnswersLine AnswersPart FailsAnswer
@@ -196,7 +196,7 @@ ends-command line command now new written after (Err broken.Report) is other (te
 ends-command line command now new written after (Err broken.Output) is other (text, h, put) =
     (text, subst (λ (told : Result DebugCommand Refusal). FailsAnswer told now new text) (sym is) h, put)
 
--- so as the session states it
+-- the same in terms of how the session ends
 pub ends-told : (line : List ℕ) (command : DebugCommand) (now new : DebuggerState) (written after : Option (List ℕ)) (answer : Result (Unit {0}) Broken)
     (end : Option Debugged) → end ≡ ended_by answer → command_in line ≡ Ok command → command ≢ End → CommandLeaves command now new written after answer →
     LineLeaves line now new written after end
@@ -238,7 +238,7 @@ ends_unrefused line refusal now written after i j failed is put = (
   put.front,
 )
 
--- so as the session states it
+-- the same in terms of how the session ends
 pub ends-refusal : (line : List ℕ) (refusal : Refusal) (now : DebuggerState) (written after : Option (List ℕ)) (i j : ℕ) (answer : Result (Unit {0}) Failed)
     (told : Result (Unit {0}) Broken) (end : Option Debugged) → end ≡ ended_by told → told ≡ of_report answer → command_in line ≡ Err refusal →
     PutsText written after i j (refused_line (refusal_text refusal)) answer → LineLeaves line now now written after end

@@ -174,7 +174,7 @@ none-stands core ring later h none left = subst (StandsSomewhere core) (none ∙
 
 -- Faults --
 
--- no fault was counted where the step was made
+-- no fault was counted if the step was made
 pub newest-still : (now new : ProcessorState) (written after : Option (List ℕ)) (i j start : ℕ) (answer : Result Bool Failed) (kept : Bool) →
     answer ≡ Ok kept → PutsNewest now new written after i j answer → i ≡ start → j ≡ start
 unfolding PutsNewest
@@ -182,7 +182,7 @@ newest-still now new written after i j start answer kept is (text, put, left) be
     let p : PutsText {E = Failed} written after i j text (Ok kept) = subst (PutsText written after i j text) is put in
     p.cause.still ∙ begun
 
--- and one where it failed
+-- and one if it failed
 pub newest-rose : (now new : ProcessorState) (written after : Option (List ℕ)) (i j start : ℕ) (failed : Failed) (answer : Result Bool Failed)
     (told : Result (Unit {0}) Failed) → answer ≡ Err failed → IsErrAnd told (λ e. e ≡ failed) → PutsNewest now new written after i j answer → i ≡ start →
     HasCause start j told

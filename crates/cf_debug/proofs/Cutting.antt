@@ -62,7 +62,7 @@ has-end bytes lines line h = record {
   lines_are = ap (λ (ls : List (List ℕ)). ls ++ without_return line ∷ []) h.lines_are ∙ sym (map-append without_return h.pieces (line ∷ []));
 }
 
--- What is held of a line --
+-- What is kept of a line --
 
 -- one more byte
 pub held-more : (line : List ℕ) (byte : ℕ) → held_line (held_line line ++ byte ∷ []) ≡ held_line (line ++ byte ∷ [])
@@ -96,7 +96,7 @@ nearly line = of (ends_with nat_eq line (13 ∷ []))
     of true = omega (arith, length-take (length line - 1) line)
     of false = omega arith
 
--- what is held of a line gives the same command, whether or not the line is ended
+-- what is kept of a line gives the same command, whether or not the line is ended
 pub held-whole : (line : List ℕ) → command_in (without_return (held_line line)) ≡ command_in (without_return line)
 held-whole line = of (nat_lt 258 (length line)) refl
   where
@@ -122,7 +122,7 @@ held-last line = of (nat_lt 258 (length line)) refl
         let few : length line ≤ 258 = grind (arith, nat_tests, short) in
         ap command_in (take_all 258 line few)
 
--- nothing is held of an empty line alone
+-- if nothing is kept of a line, it is empty
 pub held-none : (line : List ℕ) → held_line line ≡ [] → line ≡ []
 held-none [] none = refl
 held-none (byte ∷ line) none = absurd (omega (arith, ap length none, length-take 258 (byte ∷ line)))
@@ -177,11 +177,11 @@ feeds-used told now new byte is left few same going =
 not_ended : (n : ℕ) (ended : Bool) → (n ≡ 0 → ⊥) → ended ≡ (n == 0) → ended ≡ false
 not_ended n ended some is = grind (arith, nat_tests, some, is)
 
--- and one that gave none is
+-- a take that gave none is the end
 is_ended : (n : ℕ) (ended : Bool) → n ≡ 0 → ended ≡ (n == 0) → ended ≡ true
 is_ended n ended none is = grind (arith, nat_tests, none, is)
 
--- the first byte of those that were taken just now
+-- the first byte of those that were just taken
 pub feeds-taken : (before after : Option (List ℕ)) (now filled new : Feeding) (byte : ℕ) → now.rest ≡ [] → GivesInput before after filled.rest →
     filled.left + length filled.rest ≡ now.left → length filled.rest ≤ most_taken → filled.rest ≡ byte ∷ new.rest → new.left ≡ filled.left →
     (n : ℕ) → (n ≡ 0 → ⊥) → filled.ended ≡ (n == 0) → new.ended ≡ filled.ended → Feeds before after now new (Byte byte)
@@ -268,7 +268,7 @@ unfolding Feeds
 one-failed before after into new e now later takes none same left ended =
     (none, subst (λ (o : Option (List ℕ)). GivesInput before o []) (sym takes.unchanged.1) (gives-none before), same_rest now later now.ended same left ended)
 
--- One more byte, where a line has room for n --
+-- One more byte, if a line has room for n --
 
 pub pushed : (n : ℕ) (line items new : List ℕ) (byte : ℕ) (full : Bool) → full ≡ (length items == n) → length items ≤ n → full ≡ false → items ≡ line →
     new ≡ items ++ byte ∷ [] → new ≡ take n (line ++ byte ∷ [])

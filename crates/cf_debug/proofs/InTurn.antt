@@ -81,7 +81,7 @@ next-is at now made c later policy drained ruled count beside drained_is later_i
       ∙ ap (λ (n : ℕ). stopped now.core.plan.stages (paced n made.move made.event (is_drained made.state))) (sym count);
 }
 
--- what is offered by a count is offered for the stages of the layout
+-- moves that are offered by a count are offered for the stages of the layout
 offers-any : (c : PaceCount) (plan : Plan) (s : State) → c.stages ≡ plan.stages → c.rule ≡ rules.Any → offers_by c plan s ≡ offered_by rules.Any plan c.count s
 offers-any c plan s beside ruled = offers-offered c plan s beside ∙ ap (λ r. offered_by r plan c.count s) ruled
 
@@ -330,7 +330,7 @@ drives-aground n stop start now new held later written between after count few c
   subst (λ (o : Option (List ℕ)). Writes written o (retirements c.trace)) (sym same) c.put,
 )
 
--- whichever failed
+-- whichever of the two failed
 pub drives-broken : (n : ℕ) (stop : Option ℕ) (start now new : ProcessorState) (held later : Turn) (written between after : Option (List ℕ)) (count : ℕ)
     (b : Broken) → count < n → Comes stop start now held written between count → Steers stop held later now new between after (Err b) →
     DrivesOut n stop start new written after (Err b)

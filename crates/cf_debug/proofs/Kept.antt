@@ -1,4 +1,4 @@
--- The records of a ring, seen as what they keep.
+-- The records of a ring, seen as the values that they keep.
 use Rattle.std.proofs.Common.{◌≡◌, ℕ, zero, suc, ◌-◌, ◌<◌, List, [], ◌∷◌, ◌++◌, length, map, take, drop, Option, Some, None, refl, ap, sym, ◌∙◌, arith}
 use Rattle.std.specs.Prelude.{slice_get, MatchOption}
 use Rattle.std.proofs.lemmas.List.{drop-map, length-map, map-append}
@@ -44,7 +44,7 @@ kept-last (first ∷ records) (Some undo) is =
     let all : List Undo = first ∷ records in
     ap (map kept_by) (cut_at all (length all - 1) undo (omega arith) (sym is)) ∙ map-append kept_by (take (length all - 1) all) (undo ∷ [])
 
--- the same of the lists that are seen
+-- the same for the lists that are seen
 pub popped : (records rest : List Undo) (old new : List Kept) (last : Option Undo) → last ≡ last_item records → rest ≡ take (length records - 1) records →
     map kept_by records ≡ old → new ≡ map kept_by rest → MatchOption last ((old ≡ []) × (new ≡ [])) (λ undo. old ≡ new ++ kept_by undo ∷ [])
 popped records rest old new None is rest_is seen seen_rest =

@@ -1,4 +1,4 @@
--- Each command, line and byte keeps a session on its run, and a session is left there.
+-- Each command, line and byte keeps a session on its run, and a session ends there.
 use Rattle.std.proofs.Common.{◌≡◌, ℕ, zero, suc, List, [], ◌∷◌, ◌++◌, length, Option, Some, None, Ok, Err, sym, ap, subst, inl, inr}
 use Rattle.std.specs.Prelude.{◌⊎◌, Result}
 use Rattle.cf_layout.specs.Accepted.{IsAccepted}
@@ -101,7 +101,7 @@ parts_stand start blank (Break stop) now new text h c = carries_stand start blan
 parts_stand start blank (Back n) now new text h (same, (m, few, back)) = back_stand start blank m now.processor new.processor text h back
 parts_stand start blank End now new text h c = carries_stand start blank End now new text h c
 
--- a command that the output failed leaves it there too
+-- a command that the output failed keeps it there too
 runs_aground : (start : Processor) (blank : Option (List ℕ)) (command : DebugCommand) (now new : DebuggerState) (text : List ℕ) → IsAccepted start.plan →
     StandsNow start blank now.processor → RunsAground command now new text →
     IsOnRun start new.processor.core blank new.processor.output WriteFault
@@ -136,12 +136,12 @@ unfolding FailsAnswer
 fails_aground start blank (Ok command) now new text accepted h f = runs_aground start blank command now new text accepted h f
 fails_aground start blank (Err refusal) now new text accepted h f = absurd f
 
--- where it is left, if the output did not fail
+-- where the session ends, if the output did not fail
 done_there : (start : Processor) (blank : Option (List ℕ)) (now : ProcessorState) → IsAccepted start.plan → StandsNow start blank now →
     IsOnRun start now.core blank now.output Done
 done_there start blank now accepted h = stands-on_run start now.core now.ring blank now.output Done accepted (λ x m begin new s. s) h
 
--- and a line that ends the session leaves it there
+-- and a line that ends the session ends it there
 ends_on_run : (start : Processor) (line : List ℕ) (blank : Option (List ℕ)) (now new : DebuggerState) (written after : Option (List ℕ)) (answer : Debugged) →
     IsAccepted start.plan → StandsNow start blank now.processor → LineLeaves line now new written after (Some answer) →
     IsOnRun start new.processor.core blank new.processor.output answer

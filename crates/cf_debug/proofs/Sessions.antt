@@ -22,7 +22,7 @@ use Rattle.cf_debug.proofs.Answering.{answers-more, ends-same}
 use Rattle.cf_debug.proofs.Standing.{nothing-written}
 use Rattle.cf_debug.proofs.Cutting.{gives-again, gives-none, has-byte, has-end, has-none, held-last, held-more, held-none, held-some, held-whole}
 
--- the bytes that were used so far: their whole lines are answered, and this is held of the unfinished one
+-- the bytes that were used so far: their whole lines are answered, and this is kept of the unfinished one
 pub record Comes (before : Session) (begin now : DebuggerState) (commands report : Option (List ℕ)) (line : List ℕ) (feed : Feeding) : Type 0 where
   pub used : List ℕ
   pub gives : GivesInput before.commands commands (used ++ feed.rest)
@@ -173,7 +173,7 @@ all_told (Some told) now bytes (rest, is, left) end =
     let none : rest ≡ [] = subst IsAtEnd left end in
     sym (is ∙ ap (λ (r : List ℕ). bytes ++ r) none ∙ append-nil bytes)
 
--- what was taken, where all of it is used and nothing more was taken
+-- what was taken, if all of it is used and nothing more was taken
 record Ended (before : Session) (commands after : Option (List ℕ)) (used : List ℕ) : Type 0 where
   had : GivesInput before.commands commands used
   gives : GivesInput before.commands after used

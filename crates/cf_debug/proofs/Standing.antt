@@ -1,4 +1,4 @@
--- A session stays on a run: moves are made and taken back, and the ring leads to where the processor is.
+-- A session stays on a run: moves are made and taken back, and the ring leads to the session's processor.
 use Rattle.std.proofs.Common.{◌≡◌, ◌≢◌, ℕ, zero, suc, ◌+◌, ◌-◌, ◌<◌, ◌≤◌, List, [], ◌∷◌, ◌++◌, length, drop, Option, Some, None, Bool, true, false, refl, sym, ap, subst, ◌∙◌, append-nil, arith}
 use Rattle.std.specs.Prelude.{if◌then◌else◌}
 use Rattle.cf_io.specs.Puts.{Writes}
@@ -52,7 +52,7 @@ reached_more plan x m mv r free = record {
 
 -- Rings --
 
--- a moment that moves of a run lead to, with nothing left of the input, and what they write
+-- a moment to which moves of a run lead, with no input left, and what they write
 pub record Comes (plan : Plan) (x : Machine) (output : List ℕ) (s : State) : Type 0 where
   pub moment : Moment
   pub reached : IsReached plan x moment
@@ -143,7 +143,7 @@ stands-first core ring blank o wide none = record {
   output = nothing-written blank;
 }
 
--- whatever was written, nothing is claimed of an output that exposes nothing
+-- nothing is claimed of an output that exposes nothing, whatever was written
 pub stands-untold : (start core : Processor) (ring : List Kept) (blank full after : Option (List ℕ)) → StandsAfterMoves start core ring blank full →
     StandsAfterMoves start core ring None after
 stands-untold start core ring blank full after h = record {
@@ -166,7 +166,7 @@ stands-at start core ring blank full h c = record {
   streams = record { input = ap Some (sym c.none); output = subst (Writes blank full) (sym c.put) h.output };
 }
 
--- so it is on a run, where it did not end because the output failed
+-- so it is on a run, unless it ended because the output failed
 pub stands-on_run : (start core : Processor) (ring : List Kept) (blank full : Option (List ℕ)) (answer : Debugged) → IsAccepted start.plan →
     ((x : Machine) (m : Moment) (begin new : RunPlace) → StandsAt m begin new → IsLeftAt x m begin new answer) →
     StandsAfterMoves start core ring blank full → IsOnRun start core blank full answer

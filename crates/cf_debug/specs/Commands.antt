@@ -1,4 +1,4 @@
--- The commands of the debugger, one a line (a format of this project): a name, and what has to follow it.
+-- The commands of the debugger, one per line (a format of this project): a name, and its operands.
 use Rattle.std.specs.Prelude.{ℕ, ◌≤◌, ◌==◌, ◌&&◌, List, [], drop, length, Option, Some, None, Result, Ok, Err, codes, is_some, nat_le, nat_lt, if◌then◌else◌}
 use Rattle.std.specs.Str.{bytes_eq}
 use Rattle.texts.specs.Answers.{and_then, needed}
@@ -16,7 +16,7 @@ use Rattle.cf_debug.specs.declared.command.Refusal.{Refusal}
 use Rattle.cf_debug.specs.declared.command.Refusal.TheVariants.{TooLong, UnknownCommand, BadNumber, ExtraWords, Script}
 use Rattle.cf_debug.specs.Limits.{longest_line, most_kept, most_auto_moves}
 
--- the number, from one up to a limit, or a refusal where it is missing
+-- the number, from one up to a limit, or a refusal if it is missing
 abbrev pub number_within : ℕ → Result ℕ ScriptKind → Result ℕ Refusal
 number_within most (Err kind) = Err BadNumber
 number_within most (Ok n) = if nat_le 1 n && nat_le n most then Ok n else Err BadNumber
@@ -51,7 +51,7 @@ why_told (Err kind) = Err (Script kind)
 unfoldable pub auto_told : List (List ℕ) → Result DebugCommand Refusal
 auto_told words = and_then (number_told most_auto_moves words) (λ n. command_alone (drop 1 words) (Auto n))
 
--- how many moves are taken back, up to as many as are kept: one where no word follows
+-- how many moves are taken back, up to as many as are kept: one if no word follows
 unfoldable pub back_told : List (List ℕ) → Result DebugCommand Refusal
 back_told words =
     if length words == 0 then Ok (Back 1)
@@ -88,8 +88,8 @@ abbrev pub lone_told : Option DebugCommand → List (List ℕ) → Result DebugC
 lone_told None words = Err UnknownCommand
 lone_told (Some command) words = command_alone words command
 
--- a line that begins with the name of a move is one, as a line of a script; another is a command after which no word may
--- follow
+-- a line that begins with the name of a move is that move, as in a script; any other is a command after which no word
+-- may follow
 unfoldable pub other_told : (line name after : List ℕ) → Result DebugCommand Refusal
 other_told line name after =
     if is_some (place_named name) then move_told (move_in line) else lone_told (lone_command name) (words_of after)

@@ -17,8 +17,8 @@ unfoldable pub joined : List (List ℕ) → List ℕ → List ℕ
 joined [] rest = rest
 joined (piece ∷ pieces) rest = piece ++ 10 ∷ joined pieces rest
 
--- the bytes are these lines, each ended by a line feed, before which one carriage return is dropped; and after them the
--- unfinished one
+-- the bytes are these lines, each ended by a line feed, before which one carriage return is dropped, followed by the
+-- unfinished line
 pub record HasLines (bytes : List ℕ) (lines : List (List ℕ)) (unfinished : List ℕ) : Type 0 where
   pub pieces : List (List ℕ)
   pub are_pieces : All IsPiece pieces
@@ -31,12 +31,12 @@ abbrev pub last_line : List ℕ → List (List ℕ)
 last_line [] = []
 last_line (byte ∷ line) = (byte ∷ line) ∷ []
 
--- what is held of an unfinished line: enough to show whether it is too long, with a carriage return counted
+-- what is kept of an unfinished line: enough to show whether it is too long, with a carriage return counted
 abbrev pub held_line : List ℕ → List ℕ
 held_line line = take (longest_line + 2) line
 
--- the bytes that were taken and not used yet, how many may still be taken, and whether a take gave none, after which there
--- is no other
+-- the bytes that were taken and not used yet, how many more may be taken, and whether a take gave none, after which
+-- there are no more
 pub record Feeding : Type 0 where
   pub rest : List ℕ
   pub left : ℕ
@@ -46,8 +46,8 @@ pub record Feeding : Type 0 where
 abbrev pub feeding : {S : Type 0} → List ℕ → CommandSource S → Feeding
 feeding rest commands = record { rest = rest; left = commands.left; ended = commands.ended }
 
--- the next byte of the commands: where no byte that was taken is left, some are taken; or the commands are at their
--- end, or longer than the limit, or a take failed
+-- the next byte of the commands: if no byte is left of those taken, some are taken; or the commands are at their end,
+-- or longer than the limit, or a take failed
 unfoldable pub Feeds : (before after : Option (List ℕ)) → (now new : Feeding) → Next → Type 0
 Feeds before after now new (Byte byte) =
     (taken : List ℕ) × GivesInput before after taken × (now.rest ++ taken ≡ byte ∷ new.rest)
@@ -57,7 +57,7 @@ Feeds before after now new AtEnd =
 Feeds before after now new TooMany = (now.rest ≡ []) × (now.left ≡ 0) × ((byte : ℕ) × GivesInput before after (byte ∷ [])) × (new ≡ now)
 Feeds before after now new Fault = (now.rest ≡ []) × GivesInput before after [] × (new ≡ now)
 
--- an error where a take failed
+-- an error if a take failed
 abbrev pub commands_fed : Next → Result (Unit {0}) (Unit {0})
 commands_fed Fault = Err tt
 commands_fed next = Ok tt

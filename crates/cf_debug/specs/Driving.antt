@@ -20,7 +20,7 @@ abbrev pub fetch_runs_at : ℕ → Fetch → Bool
 fetch_runs_at address (Running pc) = pc == address
 fetch_runs_at address Waiting = false
 
--- the move issues an instruction at the break address, where there is one; whatever the guess
+-- the move issues an instruction at the break address, if there is one, with any guess
 abbrev pub meets_break : Option ℕ → State → Move → Bool
 meets_break None s mv = false
 meets_break (Some address) s mv = is_issue mv && fetch_runs_at address s.fetch

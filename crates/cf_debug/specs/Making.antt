@@ -34,7 +34,7 @@ pub record MakesAndKeeps (mv : Move) (event : Event) (now new : ProcessorState) 
   pub is_event : IsEvent now.core.plan now.core.state mv event
   pub ring : new.ring ≡ ring_after now.core.plan now.core.state mv now.ring
 
--- nothing bars the move, which is Serve, and the output failed its call; nothing is lost that can be taken back
+-- nothing bars the move, which is Serve, and the output failed its call; no move that can be taken back is lost
 pub record FailsOne (mv : Move) (now new : ProcessorState) : Type 0 where
   pub allowed : bar now.core.plan now.core.state mv ≡ None
   pub serves : mv ≡ Serve

@@ -51,7 +51,7 @@ PutsNewest now new written after before faults answer =
     (text : List ℕ) × PutsText written after before faults text answer
     × ((TakesNewest now new text × (answer ≢ Ok false)) ⊎ ((now.ring ≡ []) × RefusesLine now new text (codes "NothingKept") × (answer ≢ Ok true)))
 
--- the outcome of `back`, and what is written: by a failed report it may be that of fewer moves
+-- the outcome of `back`, and what is written: if the report fails, it may be that of fewer moves
 unfoldable pub PutsBack : ℕ → (now new : ProcessorState) → (written after : Option (List ℕ)) → Result (Unit {0}) Failed → Type 0
 PutsBack n now new written after (Ok done) = (text : List ℕ) × TakesBack n now new text × Writes written after text
 PutsBack n now new written after (Err failed) = (text : List ℕ) × ((m : ℕ) × (m ≤ n) × TakesBack m now new text) × WritesFront written after text
@@ -63,12 +63,12 @@ CommandLeaves command now new written after (Ok done) = (text : List ℕ) × Com
 CommandLeaves command now new written after (Err broken.Report) = (text : List ℕ) × CommandAnswersPart command now new text × WritesFront written after text
 CommandLeaves command now new written after (Err broken.Output) = (text : List ℕ) × RunsAground command now new text × Writes written after text
 
--- an error where the output failed
+-- an error if the output failed
 abbrev pub output_broken : {T : Type 0} → Result T Broken → Result (Unit {0}) (Unit {0})
 output_broken (Err broken.Output) = Err tt
 output_broken answer = Ok tt
 
--- an error where the report failed
+-- an error if the report failed
 abbrev pub report_broken : {T : Type 0} → Result T Broken → Result (Unit {0}) (Unit {0})
 report_broken (Err broken.Report) = Err tt
 report_broken answer = Ok tt

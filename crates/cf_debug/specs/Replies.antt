@@ -35,7 +35,7 @@ use Rattle.cf_debug.specs.Driving.{Drives, DrivesOn, DrivesAground}
 use Rattle.cf_debug.specs.Limits.{most_retired}
 use Rattle.cf_debug.specs.Making.{ProcessorState, MakesAndKeeps, FailsOne}
 
--- the state of a session: the processor, and the address at which `auto` stops, where there is one
+-- the state of a session: the processor, and the address at which `auto` stops, if there is one
 pub record DebuggerState : Type 0 where
   pub processor : ProcessorState
   pub stop : Option ℕ
@@ -62,7 +62,7 @@ unfoldable pub bytes_text : List ℕ → List ℕ
 bytes_text [] = []
 bytes_text (byte ∷ bytes) = (codes " " ++ digit_char (byte / 16) ∷ digit_char (byte % 16) ∷ []) ++ bytes_text bytes
 
--- the bytes from an address on, where memory has them
+-- the bytes from an address on, if memory has them
 unfoldable pub memory_text : ℕ → Option (List ℕ) → List ℕ
 memory_text address None = refused_line (codes "NoAccess")
 memory_text address (Some bytes) = line (hex8 address ++ bytes_text bytes)
@@ -156,7 +156,7 @@ CommandAnswers (Break stop) now new text = (new ≡ debugger_state now.processor
 CommandAnswers (Back n) now new text = (new.stop ≡ now.stop) × TakesBack n now.processor new.processor text
 CommandAnswers End now new text = OnlyAnswers now new text []
 
--- the same where the report fails after a prefix of the text: the whole command is carried out, or `auto` in part, or
+-- the same if the report fails after a prefix of the text: the whole command is carried out, or `auto` in part, or
 -- `back` as one for fewer moves
 unfoldable pub CommandAnswersPart : DebugCommand → (now new : DebuggerState) → List ℕ → Type 0
 CommandAnswersPart (Auto n) now new text = CommandAnswers (Auto n) now new text ⊎ ((new.stop ≡ now.stop) × DrivesOn n now.stop now.processor new.processor text)
@@ -171,7 +171,7 @@ RunsAground command now new text = ⊥
 
 -- Lines --
 
--- a line is answered: another command than `end`, or a refusal
+-- a line is answered: a command other than `end`, or a refusal
 unfoldable pub AnswersLine : Result DebugCommand Refusal → (now new : DebuggerState) → List ℕ → Type 0
 AnswersLine (Ok command) now new text = (command ≢ End) × CommandAnswers command now new text
 AnswersLine (Err refusal) now new text = OnlyAnswers now new text (refused_line (refusal_text refusal))

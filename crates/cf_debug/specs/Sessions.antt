@@ -42,7 +42,7 @@ ended_by (Ok done) = None
 ended_by (Err broken.Output) = Some WriteFault
 ended_by (Err broken.Report) = Some ReportFault
 
--- the outcome of a byte: it continues the unfinished line, of which this is held; or it ends the line
+-- the outcome of a byte: it continues the unfinished line, of which this is kept; or it ends the line
 abbrev pub UsesByte : ℕ → (line later : List ℕ) → (now new : DebuggerState) → (written after : Option (List ℕ)) → Option Debugged → Type 0
 UsesByte byte line later now new written after answer =
     ((byte ≢ 10) × (later ≡ held_line (line ++ byte ∷ [])) × (new ≡ now) × (after ≡ written) × (answer ≡ None))
@@ -72,8 +72,8 @@ pub record AnswersWhole (bytes : List ℕ) (begin now : DebuggerState) (written 
   pub has : HasLines bytes lines unfinished
   pub answers : AnswersLines lines begin now written after
 
--- the next line, after these: one that was taken whole, with fewer bytes after it than one take gives; or the
--- unfinished one at the end of the commands
+-- the next line, after these: a line that was taken whole, with fewer bytes after it than one take gives; or the
+-- unfinished line at the end of the commands
 abbrev pub IsNext : (told : Option (List ℕ)) → List ℕ → List (List ℕ) → List ℕ → Type 0
 IsNext told bytes lines line =
     ((front rest : List ℕ) × (bytes ≡ front ++ rest) × (length rest < most_taken) × HasLines front (lines ++ line ∷ []) [])
@@ -91,7 +91,7 @@ pub record EndsAtLine (before after : Session) (begin new : DebuggerState) (answ
   pub answers : AnswersLines lines begin now before.report written
   pub ends : LineLeaves line now new written after.report (Some answer)
 
--- the bytes are all that the commands had, where they expose that, and all lines are answered
+-- these are all the bytes of the commands, if the source exposes them, and all lines are answered
 pub record EndsAtLast (before after : Session) (begin new : DebuggerState) : Type 0 where
   pub bytes : List ℕ
   pub taken : Taken before after bytes
@@ -128,17 +128,17 @@ pub record Debugs (before after : Session) (answer : Debugged) : Type 0 where
   pub stop : Option ℕ
   pub ends : EndsSession before after (debugger_state before.processor None) (debugger_state after.processor stop) answer
 
--- an error where the commands failed the session
+-- an error if the commands failed the session
 abbrev pub commands_ended : Option Debugged → Result (Unit {0}) (Unit {0})
 commands_ended (Some ReadFault) = Err tt
 commands_ended answer = Ok tt
 
--- an error where the output did
+-- an error if the output failed the session
 abbrev pub output_ended : Option Debugged → Result (Unit {0}) (Unit {0})
 output_ended (Some WriteFault) = Err tt
 output_ended answer = Ok tt
 
--- an error where the report did
+-- an error if the report failed the session
 abbrev pub report_ended : Option Debugged → Result (Unit {0}) (Unit {0})
 report_ended (Some ReportFault) = Err tt
 report_ended answer = Ok tt

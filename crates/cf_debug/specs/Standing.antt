@@ -30,7 +30,7 @@ pub record StandsAfterMoves (start core : Processor) (ring : List Kept) (blank f
   pub plan : core.plan ≡ start.plan
   pub output : Writes blank full older.output
 
--- the same of a session, whose output exposed this as it began
+-- the same for a session, whose output exposed this when it began
 abbrev pub StandsNow : Processor → Option (List ℕ) → ProcessorState → Type 0
 StandsNow start blank now = StandsAfterMoves start now.core now.ring blank now.output
 
@@ -42,7 +42,7 @@ StandsSomewhere core ring = (start : Processor) × StandsAfterMoves start core r
 abbrev pub session_place : Processor → Option (List ℕ) → RunPlace
 session_place core output = run_place_of core (streams_of (Some []) output) None no_tally
 
--- how a session that ended in this way is left: at the moment; or the output failed the call that was to be served there
+-- where a session that ended in this way is: at the moment; or the output failed the call that was to be served there
 abbrev pub IsLeftAt : Machine → Moment → (begin new : RunPlace) → Debugged → Type 0
 IsLeftAt x m begin new Done = StandsAt m begin new
 IsLeftAt x m begin new Limit = StandsAt m begin new
@@ -50,8 +50,8 @@ IsLeftAt x m begin new ReadFault = StandsAt m begin new
 IsLeftAt x m begin new WriteFault = FailsOutput x m begin new
 IsLeftAt x m begin new ReportFault = StandsAt m begin new
 
--- The session is left at a moment to which moves lead that are right, from the machine on which the processor was opened
--- and with nothing to read; what they write is what was added to the output.
+-- The session ends at a moment of a run: the moves that lead there are right, from the machine on which the processor
+-- was opened and with nothing to read. What they write is what was added to the output.
 pub record IsOnRun (start core : Processor) (blank full : Option (List ℕ)) (answer : Debugged) : Type 0 where
   pub hart : Hart
   pub opened_is : start ≡ opened_processor start.plan hart

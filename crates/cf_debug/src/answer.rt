@@ -19,7 +19,7 @@ pub enum Debugged {
     ReportFault,
 }
 
-/// What failed a command.
+/// Why a command failed.
 #[derive(Clone, Copy)]
 pub(crate) enum Broken {
     /// The output failed in a call of the environment.

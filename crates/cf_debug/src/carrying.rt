@@ -86,7 +86,7 @@ fn carry_auto<K: Sink, R: Sink>(
     told(put_counted(b"auto ", u64::from(made), report))
 }
 
-/// Takes the newest move back that is kept, and returns whether there was one.
+/// Takes the newest kept move back, and returns whether there was one.
 fn take_back<R: Sink>(core: &mut Core, ring: &mut Ring, report: &mut R) -> Result<bool, Failed>
     requires stands { StandsSomewhere core.old ring.old }
     ensures puts { PutsNewest (processor_state core.old ring.old None) (processor_state core.new ring.new None)

@@ -21,7 +21,7 @@ pub(crate) enum DebugCommand {
     /// Sets or clears the address at which `auto` stops.
     Break(Option<u32>),
 
-    /// Takes this many moves back, the last one first.
+    /// Takes this many moves back, the latest first.
     Back(u32),
 
     /// Ends the session.
@@ -46,7 +46,7 @@ pub(crate) enum View {
     /// The moves that can be made.
     Allowed,
 
-    /// That a move can be made, or its bar.
+    /// Whether a move can be made, or its bar.
     Standing(AnyMove),
 
     /// The word that is fetched at an address.
@@ -56,7 +56,7 @@ pub(crate) enum View {
     Help,
 }
 
-/// Why a line is not a command, in the order of the tests.
+/// Why a line is not a command. These are tested in this order.
 #[derive(Clone, Copy)]
 pub(crate) enum Refusal {
     /// The line has more than 256 bytes.
@@ -68,9 +68,9 @@ pub(crate) enum Refusal {
     /// A number or an address is missing or misspelt, or out of its range.
     BadNumber,
 
-    /// There are more words than the command has.
+    /// There are more words than the command takes.
     ExtraWords,
 
-    /// What follows `move` is not a move of a script.
+    /// The text after `move` is not a move of a script.
     Script(ScriptKind),
 }

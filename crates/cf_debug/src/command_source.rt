@@ -10,8 +10,8 @@ use cf_io::{Failed, Source};
 /// How many bytes of commands may be taken.
 const MOST_BYTES: usize = 16_777_216;
 
-/// The source of the commands, how many of its bytes may still be taken, and whether its end was seen: a take gave none.
-/// The source is reached by `take` alone, so that no bytes are taken otherwise.
+/// The source of the commands, how many of its bytes may still be taken, and whether its end was seen: a take that gave
+/// none. Only `take` reaches the source, so that no bytes are taken otherwise.
 #[derive(Drop)]
 pub(crate) struct CommandSource<'a, S: Source> {
     inner: &'a mut S,
@@ -20,7 +20,7 @@ pub(crate) struct CommandSource<'a, S: Source> {
 }
 
 impl<'a, S: Source> CommandSource<'a, S> {
-    /// The source, of which nothing was taken.
+    /// A source of which nothing was taken.
     pub(crate) fn new(inner: &'a mut S) -> CommandSource<'a, S>
         ensures same { result.inner.ghost_name ≡ inner.entry.ghost_name }
         ensures now { result.inner.now ≡ inner.old }
@@ -41,9 +41,9 @@ impl<'a, S: Source> CommandSource<'a, S> {
         self.left
     }
 
-    /// Takes bytes of the commands, and returns how many: 4,096 are asked for, or as many as may still be taken, or where
-    /// none may, one, to see whether there are more. None are asked for after the end was seen, since at a terminal the
-    /// end of the input would be needed a second time.
+    /// Takes bytes of the commands, and returns how many. It asks for 4,096, or for as many as may still be taken; if
+    /// none may, for one, to see whether there are more. After the end was seen it asks for none: at a terminal, the
+    /// user would have to give the end of the input a second time.
     pub(crate) fn take(&mut self, into: &mut [u8]) -> Result<usize, Failed>
         requires going { self.old.ended ≡ false }
         requires asks { length into.old ≡ room_for self.old.left }

@@ -24,7 +24,7 @@ use cf_run::known;
 use cf_sched::{Pace, Policy, Round};
 use run_options::GuessRule;
 
-/// The greatest number of instructions that retire in a session.
+/// The maximum number of instructions that retire in a session.
 const MOST_RETIRED: u64 = 10_000_000;
 
 /// Whether the move issues an instruction at the break address.

@@ -11,7 +11,7 @@ use crate::command_source::CommandSource;
 use cf_io::{Failed, Source};
 use std::marker::Model;
 
-/// What comes next of the commands.
+/// The next of the commands' bytes, or why there is none.
 #[derive(Clone, Copy)]
 pub(crate) enum Next {
     /// A byte.
@@ -45,7 +45,7 @@ impl Model for Feed {
     ghost invariant = { λ feed. (feed.at ≤ feed.end) × (feed.end ≤ 4096) };
 }
 
-/// How many bytes a take asks for where this many may still be taken.
+/// How many bytes a take asks for if this many may still be taken.
 fn room(left: usize) -> usize
     requires { 0 < left }
     ensures asks { result ≡ room_for left }
@@ -67,7 +67,7 @@ impl Feed {
         }
     }
 
-    /// Takes some bytes, where none is left in the buffer, and returns how many.
+    /// Takes some bytes, if none is left in the buffer, and returns how many.
     fn fill<S: Source>(&mut self, commands: &mut CommandSource<'_, S>) -> Result<usize, Failed>
         requires none { self.old ≡ [] }
         requires some { 0 < commands.old.left }
@@ -134,8 +134,8 @@ impl Feed {
         self.at == self.end
     }
 
-    /// The next byte of the commands, or why none comes. Bytes are taken only where none is left in the buffer: a take
-    /// asks for 4,096 of them, or for as many as may still be taken. The end is asked for once.
+    /// The next byte of the commands, or why there is none. Bytes are taken only if none is left in the buffer: a take
+    /// asks for 4,096 of them, or for as many as may still be taken. It asks for the end once.
     pub(crate) fn next<S: Source>(&mut self, commands: &mut CommandSource<'_, S>) -> Next
         requires going { commands.old.ended ≡ false }
         ensures same { commands.new.inner.ghost_name ≡ commands.old.inner.ghost_name }

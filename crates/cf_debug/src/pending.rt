@@ -53,7 +53,7 @@ impl PendingLine {
         self.bytes.as_slice()
     }
 
-    /// The finished line, where a line feed comes now: without a carriage return at its end.
+    /// The finished line, if a line feed comes now: without a carriage return at its end.
     #[tactic(auto, unfolding(rv_text::specs::Lines::without_return))]
     pub(crate) fn whole(&self) -> &[u8]
         ensures { result.now ≡ without_return self.now }

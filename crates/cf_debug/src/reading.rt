@@ -9,10 +9,10 @@ use crate::command::{DebugCommand, Refusal, View};
 use run_scripts::{Words, place_named, read_move};
 use rv_text::{numeral, split_name};
 
-/// The greatest number of moves of one command.
+/// The maximum number of moves of one command.
 const MOST_MOVES: u32 = 1_000_000;
 
-/// The greatest number of moves that one command takes back.
+/// The maximum number of moves that one command takes back.
 const MOST_KEPT: u32 = 1024;
 
 /// The number that the next word spells: one to nine decimal digits, from 1 up to a limit.

@@ -117,7 +117,8 @@ fn finish<K: Sink, R: Sink>(
     }
 }
 
-/// Answers the commands, one a line, until one of them is `end` or there are no more. Nothing was taken of their source.
+/// Answers the commands, one per line, until one of them is `end` or there are no more. Nothing was taken of their
+/// source.
 fn answer_commands<S: Source, K: Sink, R: Sink>(
     core: &mut Core,
     candidates: &mut Candidates,
@@ -165,7 +166,7 @@ fn answer_commands<S: Source, K: Sink, R: Sink>(
     }
 }
 
-/// A session of the debugger on an opened processor: answers the commands, one a line, until one of them is `end` or
+/// A session of the debugger on an opened processor: answers the commands, one per line, until one of them is `end` or
 /// there are no more. The ring has to be empty. It allocates no memory.
 ///
 /// The lines are answered in order, and a refused one changes nothing. The answers are written to the report, and the
@@ -173,10 +174,10 @@ fn answer_commands<S: Source, K: Sink, R: Sink>(
 /// made last and not taken back. The processor is at a moment of a run of the machine on which it was opened, and what the
 /// moves of that run write was added to the output; or the output failed the call that was to be served there.
 ///
-/// `Done` comes at `end` and at the end of the commands. `Limit` comes where 16,777,216 bytes were taken, no whole line
-/// among them is `end`, and there is one more byte. `ReadFault` comes only where the commands failed, after the answers
-/// to all lines that were taken whole; `WriteFault` only where the output failed a call of the environment, and
-/// `ReportFault` only where the report failed. In each case that object's count of faults rose.
+/// `Done` comes at `end` and at the end of the commands. `Limit` comes if 16,777,216 bytes were taken, no whole line
+/// among them is `end`, and there is one more byte. `ReadFault` comes only if the commands failed, after the answers to
+/// all lines that were taken whole; `WriteFault` only if the output failed a call of the environment, and `ReportFault`
+/// only if the report failed. In each case that object's count of faults rose.
 pub fn debug<S: Source, K: Sink, R: Sink>(
     core: &mut Core,
     candidates: &mut Candidates,

@@ -35,7 +35,7 @@ fn put_allowed<R: Sink>(
     Ok(())
 }
 
-/// Writes the line of the word that is fetched at an address; or that nothing is.
+/// Writes the line of the word that is fetched at an address, or that no word is fetched there.
 #[tactic(auto, unfolding(crate::specs::Replies::code_text))]
 fn put_code<R: Sink>(core: &Core, address: u32, report: &mut R) -> Result<(), Failed>
     ensures { PutsText (R.written report.old) (R.written report.new) (R.faults report.old) (R.faults report.new)

@@ -9,7 +9,7 @@ use Rattle.circular_buffer.specs.Buffer.{keep_last}
 pub all-kept : (lane : List ℕ) (r room : ℕ) → length lane < room → keep_last room (lane ++ r ∷ []) ≡ lane ++ r ∷ []
 all-kept lane r room h = grind (arith, common_steps)
 
--- and if each was for a register, so is each now
+-- if each request was for a register, so is each one now
 pub registers-kept : (lane : List ℕ) (r room : ℕ) → length lane < room → All (λ q. q < 32) lane → r < 32 → All (λ q. q < 32) (keep_last room (lane ++ r ∷ []))
 registers-kept lane r room h all low = rw (all-kept lane r room h) (All-push (λ q. q < 32) lane r all low)
 

@@ -6,8 +6,8 @@ use Rattle.cf_bind.specs.declared.packet.Fetch.TheVariants.{Running}
 use Rattle.cf_bind.specs.declared.packet.Packet.{Packet}
 use Rattle.cf_bind.specs.declared.packet.Packet.TheVariants.{Value}
 
--- the register file; the requested registers, the next to be answered first, and the capacity of the lane; what fetch
--- does; and the cached value of each register, where there is one
+-- the register file; the requested registers, beginning with the one to be answered next, and the capacity of the lane;
+-- what fetch does; and the cached value of each register, if there is one
 pub record PipeEnds : Type 0 where
   pub regs : List ℕ
   pub lane : List ℕ

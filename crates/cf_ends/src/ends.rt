@@ -31,7 +31,7 @@ impl Model for Ends {
 
 impl Ends {
     /// The ends of empty pipes: the registers, with x0 zero in any case, a lane for 2 to 64 requests, and fetch at the
-    /// address; or an error where there is no memory for the lane.
+    /// address; or an error if there is no memory for the lane.
     pub fn new(alloc: Global, regs: [u32; 32], pc: u32, lane: u32) -> Result<Ends, AllocError>
         requires least { 2 ≤ lane }
         requires most { lane ≤ 64 }

@@ -1,4 +1,4 @@
--- One more line of a text with a line for each number, and one more draw.
+-- The next line of a text with a line for each number, and the next draw.
 use Rattle.std.proofs.Common.{◌≡◌, ℕ, zero, suc, ◌+◌, ◌*◌, ◌-◌, ◌<◌, ◌≤◌, List, [], ◌∷◌, ◌++◌, refl, ap, sym, ◌∙◌, arith, zero-add, append_assoc}
 use Rattle.std.specs.List.{flat_map, range_with_len}
 use Rattle.cf_gen.specs.Draws.{state_after_draw, state_after_draws}
@@ -15,14 +15,14 @@ lines-next f a b h = ap (flat_map f) (range-next a b h)
 pub lines-none : (f : ℕ → List ℕ) (a b : ℕ) → b ≤ a → flat_map f (range_with_len a (b - a)) ≡ []
 lines-none f a b h = let e : b - a ≡ 0 = omega arith in rw e refl
 
--- where the line of a was appended, those after it are left
+-- if the line of a was appended, those after it are left
 pub lines-more : (f : ℕ → List ℕ) (a b : ℕ) (page next whole : List ℕ) → a < b → next ≡ page ++ f a
     → page ++ flat_map f (range_with_len a (b - a)) ≡ whole
     → next ++ flat_map f (range_with_len (a + 1) (b - (a + 1))) ≡ whole
 lines-more f a b page next whole h e k =
     rw e (append_assoc page (f a) _ ∙ ap (λ (l : List ℕ). page ++ l) (sym (lines-next f a b h)) ∙ k)
 
--- the same where another text follows the lines
+-- the same if another text follows the lines
 pub lines-before : (f : ℕ → List ℕ) (a b : ℕ) (text after : List ℕ) → a < b → text ≡ f a
     → flat_map f (range_with_len a (b - a)) ++ after ≡ text ++ (flat_map f (range_with_len (a + 1) (b - (a + 1))) ++ after)
 lines-before f a b text after h e =

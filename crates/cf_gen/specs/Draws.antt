@@ -1,5 +1,5 @@
 -- The numbers that a program is drawn from: a linear congruential generator with the constants of Knuth and Lewis
--- (Press and others, "Numerical Recipes in C", "An Even Quicker Generator"), of whose state the upper half is taken.
+-- (Press and others, "Numerical Recipes in C", "An Even Quicker Generator"). Draws take the upper half of its state.
 use Rattle.std.specs.Prelude.{ℕ, zero, suc, ◌+◌, ◌*◌, ◌/◌, ◌%◌, ◌^◌}
 
 -- the state after one draw

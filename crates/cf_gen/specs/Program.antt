@@ -1,5 +1,5 @@
 -- The text of a drawn program (a format of this project, in GNU as's syntax): registers get random numbers, random
--- statements follow, and code prints what the registers then hold.
+-- statements follow, and then code prints what the registers hold.
 use Rattle.std.specs.Prelude.{ℕ, ◌+◌, ◌*◌, ◌-◌, min, List, ◌++◌, codes, decimal}
 use Rattle.std.specs.List.{flat_map, range_with_len}
 use Rattle.texts.specs.Lines.{line}
@@ -35,7 +35,7 @@ drawn_statement number i x =
     label_line (label_text i)
     ++ statement (instruction_text (choice_of x).operation (choice_of x) (branch_label number i))
 
--- the i-th statement of the program: eight draws and those of the statements before it come before its own
+-- the i-th statement of the program; the first eight draws and those of the statements before it precede its own
 abbrev pub numbered_statement : ℕ → ℕ → List ℕ
 numbered_statement number i = drawn_statement number i (state_after_draws (8 + 5 * (i - 1)) number)
 
@@ -47,7 +47,7 @@ statements_text number = flat_map (numbered_statement number) (range_with_len 1 
 abbrev pub gathering_text : List ℕ
 gathering_text = flat_map (λ r. statement (codes "xor x8, x8, " ++ register_operand r)) (range_with_len 9 7)
 
--- x8's eight hexadecimal digits are put into the data, the upper ones first
+-- x8's eight hexadecimal digits are written into the data, the upper ones first
 abbrev pub converting_text : List ℕ
 converting_text =
     statement (codes "la x16, text") ++ statement (codes "li x18, 8") ++ label_line (codes "hex")
@@ -58,7 +58,7 @@ converting_text =
     ++ statement (codes "addi x16, x16, 1") ++ statement (codes "addi x18, x18, -1")
     ++ statement (codes "bnez x18, hex")
 
--- write (64) puts the digits and a line feed to standard output, and exit (93) ends the program
+-- write (64) writes the digits and a line feed to standard output, and exit (93) ends the program
 abbrev pub writing_text : List ℕ
 writing_text =
     statement (codes "li x10, 1") ++ statement (codes "la x11, text") ++ statement (codes "li x12, 9")

@@ -6,7 +6,7 @@ use Rattle.cf_gen.specs.declared.choice.Operation.TheVariants.{Add, Sub, Xor, Or
 use Rattle.cf_gen.specs.declared.choice.Choice.{Choice}
 use Rattle.cf_gen.specs.Draws.{state_after_draws, drawn_below}
 
--- the operation that a number below 10 stands for
+-- the operation that a number below 10 means
 abbrev pub operation_of : ℕ → Operation
 operation_of k =
     if k == 0 then Add else

@@ -1,4 +1,4 @@
--- What is allowed over the stages, by its words.
+-- The moves that are allowed over the stages, by their words.
 use Rattle.std.proofs.Common.{◌≡◌, ◌≤◌}
 use Rattle.std.specs.Prelude.{filter}
 use Rattle.cf_layout.specs.Layout.{Plan}

@@ -1,4 +1,4 @@
--- Whatever fetch comes to can be issued where the lane has room for two requests.
+-- Any instruction that fetch comes to can be issued if the lane has room for two requests.
 use Rattle.std.proofs.Common.{◌≡◌, ℕ, ◌+◌, ◌<◌, ◌≤◌, List, [], ◌∷◌, Option, Some, None, Bool, true, false, refl, length, arith}
 use Rattle.std.specs.Prelude.{◌&&◌, ◌==◌, if◌then◌else◌, not, nat_lt}
 use Rattle.std.proofs.lemmas.Bool.Decides.{nat_tests}
@@ -19,7 +19,7 @@ use Rattle.cf_stages.specs.Changes.{passenger_at}
 use Rattle.cf_index.specs.Allowed.{is_allowed, is_running, issues_any}
 use Rattle.cf_index.specs.Words.{goes_on}
 
--- an instruction has two sources at most
+-- an instruction has at most two sources
 one_or_two : (r s : ℕ) (b : Bool) → length (if b then r ∷ [] else r ∷ s ∷ []) ≤ 2
 one_or_two r s true = omega arith
 one_or_two r s false = omega arith

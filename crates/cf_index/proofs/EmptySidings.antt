@@ -1,4 +1,4 @@
--- Where no siding has an operation, no Slide, Access or Recover is allowed.
+-- If no siding has an operation, no Slide, Access or Recover is allowed.
 use Rattle.std.proofs.Common.{◌≡◌, ◌∙◌, sym, refl, ap, subst, ℕ, zero, suc, ◌+◌, ◌-◌, ◌<◌, ◌≤◌, List, [], ◌∷◌, ◌++◌, length, map, Bool, true, false, nat_lt, Option, Some, None, arith}
 use Rattle.std.specs.List.{list_any}
 use Rattle.std.specs.Prelude.{◌&&◌, ◌||◌, filter, find, not, slice_get}
@@ -26,7 +26,7 @@ use Rattle.cf_index.specs.Allowed.{all_leaving, is_allowed}
 use Rattle.cf_index.specs.PickedFrom.{from_leave, outward_on}
 use Rattle.cf_index.specs.Ranks.{is_past}
 
--- up to a number, and at it
+-- what holds below a number and at it holds up to it
 pub up_to : (P : ℕ → Type 0) (k : ℕ) → ((j : ℕ) → j < k → P j) → P k → (j : ℕ) → j < k + 1 → P j
 up_to P k before here j below = by (nat_lt j k) refl
   where
@@ -34,7 +34,7 @@ up_to P k before here j below = by (nat_lt j k) refl
     by true e = before j (grind (arith, nat_tests, e))
     by false e = let same : k ≡ j = grind (arith, nat_tests, e, below) in subst P same here
 
--- a siding that is not there has none
+-- a siding that does not exist has no operation
 pub none_beyond : (s : State) (k : ℕ) → length s.sidings ≤ k → list_any is_some (siding_at s k) ≡ false
 none_beyond s k past = of s.sidings k past
   where
@@ -43,7 +43,7 @@ none_beyond s k past = of s.sidings k past
     of (ops ∷ sidings) zero past = absurd (omega (arith, past))
     of (ops ∷ sidings) (suc k) past = of sidings k (omega (arith, past))
 
--- so where each that is there has none, all have none
+-- so if each siding that exists has none, all have none
 pub empty_beyond : (plan : Plan) (s : State) (n : ℕ) → IsProcessor plan s → length plan.sidings ≤ n →
     ((j : ℕ) → j < n → list_any is_some (siding_at s j) ≡ false) → (k : ℕ) → list_any is_some (siding_at s k) ≡ false
 empty_beyond plan s n facts all each k = by (nat_lt k n) refl
@@ -55,7 +55,7 @@ empty_beyond plan s n facts all each k = by (nat_lt k n) refl
     by true e = each k (grind (arith, nat_tests, e))
     by false e = none_beyond s k (grind (arith, nat_tests, e, all, same))
 
--- nothing is in its last cell, nor in another
+-- nothing is in its last cell, nor in any other
 both_false : (a b : Bool) → (a || b) ≡ false → (a ≡ false) × (b ≡ false)
 both_false true b e = absurd (cc)
 both_false false b e = (refl, e)

@@ -1,4 +1,4 @@
--- The words that are filled bit by bit, and the moves that they stand for.
+-- The words that are filled bit by bit, and the moves that they list.
 use Rattle.std.proofs.Common.{◌≡◌, ◌∙◌, sym, refl, ap, ℕ, zero, suc, ◌+◌, ◌-◌, ◌*◌, ◌/◌, ◌%◌, ◌<◌, ◌≤◌, List, [], ◌∷◌, ◌++◌, length, map, All, Option, Bool, true, false, nat_lt, arith}
 use Rattle.std.specs.Prelude.{◌&&◌, filter, slice_get, unwrap_or}
 use Rattle.std.proofs.lemmas.Bool.Decides.{nat_tests}
@@ -20,7 +20,7 @@ use Rattle.cf_index.specs.Listed.{flagged, at_word, slide_at, slides_of, passing
 use Rattle.cf_index.specs.Allowed.{is_allowed, HasStages, all_entering, all_passing, all_leaving}
 use Rattle.cf_index.proofs.Counted.{counted_split, filter_none, filter_chosen}
 
--- before any siding was visited the word has no bit
+-- before any siding was visited no bit of the word is set
 pub none_of_any : (j : ℕ) (b : Bool) → has_bit 0 j ≡ (nat_lt (j / 8) 0 && b)
 none_of_any j b = let e : nat_lt (j / 8) 0 ≡ false = grind (arith, nat_tests) in rw (no_bits j, e) refl
 
@@ -32,7 +32,7 @@ stages_chosen plan s kind w few has = sym (filter_chosen (is_allowed plan s) kin
     (λ c below. let e : 0 + c ≡ c = omega arith in let f : 1 + c ≡ c + 1 = omega arith in rw (e, f) (has c))
     (λ c below. let e : 0 + c + 1 ≡ 1 + c = omega arith in rw e refl))
 
--- the moves of a flag
+-- the move of a flag
 flag_chosen : (p : Move → Bool) (b : Bool) (mv : Move) → b ≡ p mv → flagged b mv ≡ filter p (mv ∷ [])
 flag_chosen p true mv e = rw (← e) refl
 flag_chosen p false mv e = rw (← e) refl
@@ -68,11 +68,11 @@ leaving_chosen plan s l few access recover leave exit serve =
     parts_chosen (is_allowed plan s) _ _ (Exit ∷ []) (Serve ∷ []) (flag_chosen (is_allowed plan s) l.exit Exit exit)
     (flag_chosen (is_allowed plan s) l.serve Serve serve))))
 
--- how many cells the m-th of some sidings has
+-- how many cells the m-th of these sidings has
 cells_in : List SidingPlan → ℕ → ℕ
 cells_in sidings m = (unwrap_or (slice_get sidings m) no_siding).cells
 
--- the moves within some sidings, by a word that has for each of them the cells at which the test holds
+-- the moves within these sidings, by a word that has, for each of them, the cells at which the test holds
 within : (p : Move → Bool) (w k n : ℕ) (sidings : List SidingPlan) → length sidings ≤ n → All (λ siding. siding.cells ≤ 8) sidings →
     ((m c : ℕ) → c < 8 → has_bit w (8 * (k + m) + c) ≡ (nat_lt c (cells_in sidings m - 1) && p (Slide (k + m) c))) →
     filter p (slides_from k sidings) ≡ map slide_at (filter (has_bit w) (counted_from (8 * k) (8 * n)))
@@ -111,7 +111,7 @@ counted_siding sidings n m c false e b few =
     let off : nat_lt c (0 - 1) ≡ false = grind (arith, nat_tests) in
     rw (z, off) refl
 
--- the cells that a word has, at the sidings of a layout
+-- the cells of a word, at the sidings of a layout
 cells_there : (plan : Plan) (s : State) (w n m c : ℕ) → length plan.sidings ≤ n → c < 8 →
     ((j : ℕ) → has_bit w j ≡ (nat_lt (j / 8) n && (nat_lt (j % 8) (cells_of plan (j / 8) - 1) && is_allowed plan s (slide_at j)))) →
     has_bit w (8 * (0 + m) + c) ≡ (nat_lt c (cells_in plan.sidings m - 1) && is_allowed plan s (Slide (0 + m) c))
@@ -133,12 +133,12 @@ slides_chosen plan s w n p e has =
     sym (within (is_allowed plan s) w 0 8 plan.sidings a.few_sidings (λ k d inside. (a.sidings k d inside).cells.1)
     (λ m c small. cells_there plan s w n m c (omega arith) small has))
 
--- the list of all moves by its parts
+-- the list of all moves, by its parts
 all_parts : (plan : Plan) → all_moves plan ≡ all_entering ++ (all_passing plan ++ (slides_from 0 plan.sidings ++ all_leaving plan))
 unfolding all_moves
 all_parts plan = simp append_assoc
 
--- the candidates by their parts
+-- the candidates, by their parts
 pub all_chosen : (plan : Plan) (s : State) (es ps ss ls : List Move) →
     es ≡ filter (is_allowed plan s) all_entering → ps ≡ filter (is_allowed plan s) (all_passing plan) →
     ss ≡ filter (is_allowed plan s) (slides_from 0 plan.sidings) → ls ≡ filter (is_allowed plan s) (all_leaving plan) →

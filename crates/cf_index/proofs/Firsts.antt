@@ -1,4 +1,4 @@
--- The first of the candidates, with each Issue held back or not.
+-- The first of the candidates, whether or not Issue is held back.
 use Rattle.std.proofs.Common.{◌≡◌, ◌∙◌, sym, refl, ap, ℕ, zero, suc, ◌<◌, ◌≤◌, List, [], ◌∷◌, ◌++◌, length, map, Bool, true, false, cond, nat_lt, Option, Some, None, arith}
 use Rattle.std.specs.Prelude.{◌-◌, filter, find, not, slice_get, IfSome}
 use Rattle.std.specs.List.{position_or_len}
@@ -25,7 +25,7 @@ use Rattle.cf_index.proofs.Guided.{found-kept, keeps-others, kept-others, same-o
 use Rattle.cf_index.proofs.Held.{others_parts}
 use Rattle.cf_index.proofs.Passed.{later}
 
--- the first that is not an Issue
+-- the first move that is not an Issue
 pub emit_first : (plan : Plan) (s : State) → is_allowed plan s Emit ≡ true → Some Emit ≡ slice_get (allowed_others plan s) 0
 emit_first plan s e = rw e refl
 
@@ -67,7 +67,7 @@ chosen_leaving q plan =
     chosen_parts q _ (Leave ∷ Exit ∷ Serve ∷ []) (chosen_map q Recover (counted_from 1 plan.stages) (λ k. refl)) (
     chosen_step (q Leave) Leave _ refl (chosen_step (q Exit) Exit _ refl (chosen_step (q Serve) Serve [] refl refl))))
 
--- so the others are the candidates but for each Issue
+-- so the others are the candidates except for each Issue
 rest_of : Plan → State → List Move
 rest_of plan s = filter (is_allowed plan s) (all_passing plan) ++ (filter (is_allowed plan s) (slides_from 0 plan.sidings)
     ++ filter (is_allowed plan s) (all_leaving plan))
@@ -119,7 +119,7 @@ others_are plan s =
     let q = is_allowed plan s in
     ap other_moves (in_parts plan s) ∙ entering_others (q (Issue Next)) (q (Issue Taken)) (q (Issue Wait)) (q Emit) (rest_of plan s) (rest_others plan s)
 
--- the candidates are those that issue and the others
+-- the candidates are the Issues and the others
 pub candidates_parts : (plan : Plan) (s : State) → candidates plan s ≡ allowed_issues plan s ++ allowed_others plan s
 unfolding rest_of
 candidates_parts plan s =
@@ -145,7 +145,7 @@ guided_parts r plan s =
     ap (filter k) (candidates_parts plan s) ∙ filter-append k (allowed_issues plan s) (allowed_others plan s)
     ∙ ap (λ (xs : List Move). kept_issues r plan s ++ xs) (others_kept r plan s)
 
--- what is filled in by its parts; and by the rule that keeps every guess, all candidates
+-- what is filled in, by its parts; and by the rule that keeps every guess, all candidates
 pub guided_chosen : (r : GuessRule) (plan : Plan) (s : State) (es ps ss ls : List Move) →
     es ≡ filter (keeps_move r plan s) (filter (is_allowed plan s) all_entering) → ps ≡ filter (is_allowed plan s) (all_passing plan) →
     ss ≡ filter (is_allowed plan s) (slides_from 0 plan.sidings) → ls ≡ filter (is_allowed plan s) (all_leaving plan) →
@@ -167,7 +167,7 @@ pub any_guided : (plan : Plan) (s : State) → guided rules.Any plan s ≡ candi
 unfolding guided
 any_guided plan s = any_kept (candidates plan s) plan s
 
--- the first of the candidates that are held back
+-- the first of the candidates, with Issue held back
 held_first : (xs : List Move) (m : Move) → Some m ≡ slice_get (other_moves xs) 0 → Some m ≡ slice_get (held_back xs) 0
 unfolding held_back
 held_first xs m e =
@@ -201,7 +201,7 @@ first_free r plan s held i (Some m) e none is first =
 
 -- After a move --
 
--- the first of all comes after an Issue, where it is not one itself
+-- after an Issue the first of all comes next, unless it is an Issue itself
 pub after_issue : (xs : List Move) (last m : Move) → Some m ≡ slice_get xs 0 → stands_after last m ≡ true → Some m ≡ slice_get xs (first_after (Some last) xs)
 after_issue [] last m e after = absurd (cc)
 after_issue (x ∷ xs) last m e after = found_after last (x ∷ xs) m (let is : x ≡ m = cc in rw (is, after) refl)
@@ -227,7 +227,7 @@ pub unissued : (xs : List Move) (last : Move) (o : Option Move) → kind_place l
 unissued xs last None issue first other = tt
 unissued xs last (Some m) issue first other = after_issue xs last m first (later last m (let after = other_kind m other in omega (arith, issue, after)))
 
--- where none comes after, it is the first of all
+-- if none comes after, it is the first of all
 past_end : {X : Type 0} (xs : List X) (k : ℕ) → slice_get xs k ≡ None → length xs ≤ k
 past_end [] k e = omega arith
 past_end (x ∷ xs) zero e = absurd (cc)

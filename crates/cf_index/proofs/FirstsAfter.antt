@@ -29,7 +29,7 @@ lowest_place w small some = sym (lowest w some (omega arith))
 pub no_place : (w : ℕ) → w ≡ 0 → None ≡ slice_get (set_places 64 w) 0
 no_place w none = rw (none, places_zero 64) refl
 
--- what is found in a part is found in the whole, where the part before has none
+-- what is found in a part is found in the whole, if the part before it has none
 first_choice : (b : Bool) (x m : Move) (o q : Option Move) → (o ≡ Some m → q ≡ Some m) → cond b (Some x) o ≡ Some m → cond b (Some x) q ≡ Some m
 first_choice true x m o q more at = at
 first_choice false x m o q more at = more at
@@ -51,7 +51,7 @@ abbrev pub others_allowed : Plan → State → List Move
 others_allowed plan s = filter (is_allowed plan s) (all_passing plan) ++ (filter (is_allowed plan s) (slides_from 0 plan.sidings)
     ++ filter (is_allowed plan s) (all_leaving plan))
 
--- nothing that enters comes after Emit or a move of a later kind
+-- no move that enters comes after Emit or after a move of a later kind
 step_none : (p : Move → Bool) (b : Bool) (x : Move) (xs : List Move) → p x ≡ false → find p xs ≡ None → find p (cond b (x ∷ xs) xs) ≡ None
 step_none p true x xs off rest = rw off rest
 step_none p false x xs off rest = rest
@@ -77,7 +77,7 @@ found_candidate plan s last m after found =
     found_second (stands_after last) (filter q all_entering) _ (entering_none last q after) ∙ found in
     ap (find (stands_after last)) (sym parts) ∙ whole
 
--- and among those that are held back, where it is not an Issue
+-- and with Issue held back it is the first too, if it is not an Issue
 others_choice : (p : Move → Bool) (x : Move) (xs rest : List Move) (m : Move) (b i : Bool) → p x ≡ b → (b ≡ true → i ≡ false) →
     (find p xs ≡ Some m → find p rest ≡ Some m) → cond b (Some x) (find p xs) ≡ Some m → find p (cond (not i) (x ∷ rest) rest) ≡ Some m
 others_choice p x xs rest m true false e other more at = rw e at
@@ -102,7 +102,7 @@ found_held p xs m other e =
     let some : nat_lt 0 (length (other_moves xs)) ≡ true = grind (arith, nat_tests) in
     rw some f
 
--- the first that is found stands at the place of the first after the last move
+-- the move that is found is at the index of the first move after the last one
 pub found_after : (last : Move) (xs : List Move) (m : Move) → find (stands_after last) xs ≡ Some m → Some m ≡ slice_get xs (first_after (Some last) xs)
 unfolding first_after
 found_after last xs m e =

@@ -1,4 +1,5 @@
--- What a guess rule leaves of the candidates: each move but an Issue; and where an Issue is allowed, that of its guess.
+-- What a guess rule leaves of the candidates: each move other than an Issue, and, if an Issue is allowed, the one by
+-- the rule's guess.
 use Rattle.std.proofs.Common.{◌≡◌, ◌∙◌, refl, sym, ap, ℕ, ◌+◌, ℤ, pos, negsuc, List, [], ◌∷◌, ◌++◌, length, Option, Some, None, Bool, true, false, cond, nat_lt}
 use Rattle.std.specs.Prelude.{◌&&◌, not, filter, find, slice_get}
 use Rattle.std.proofs.Math.Bool.{and-true, and-false}
@@ -52,11 +53,11 @@ may-what Taken p = refl
 may-what Wait p = refl
 may-what (To t) p = refl
 
--- whether it may be made for what fetch runs at
+-- whether it may be made for what is at the address of fetch
 abbrev pub may_at : Plan → State → Guess → Bool
 may_at plan s g = on (running s.fetch) true (λ pc. may_what g (what_of (fetched (isa_of plan) s.mem pc)))
 
--- a new passenger has the instruction that was fetched, and requests the same registers by each guess
+-- a new instruction is the one that was fetched, and requests the same registers by each guess
 ended-what : (o : Option End) (i : Instr) (pc : ℕ) (g : Guess) → (on o (fresh_fence i pc g) (fresh_end (Some i) pc g)).what ≡ Some i
 ended-what None i pc g = refl
 ended-what (Some e) i pc g = refl
@@ -85,7 +86,7 @@ unfolding fresh
 fresh-requests cache (Bad e) pc g = refl
 fresh-requests cache (Got i) pc g = class-requests (kind_of i) cache i pc g
 
--- the row of Issue: a guess is barred by BadGuess alone where the next word is not
+-- the row of Issue: if an Issue by the next word is not barred, BadGuess is the only bar of another guess
 row-as : (there may full : Bool) → not (is_some (first there Occupied (first (not may) BadGuess (first full LaneFull None))))
     ≡ (not (is_some (first there Occupied (first (not true) BadGuess (first full LaneFull None)))) && may)
 row-as true may full = refl
@@ -111,7 +112,7 @@ issue-row plan s g c = go s.fetch refl
     go (Running pc) e = rw e (row-at plan s g c pc (fetched (isa_of plan) s.mem pc))
     go Waiting e = rw e refl
 
--- so an Issue is allowed where one by the next word is, and its guess may be made
+-- so an Issue is allowed if and only if the one by the next word is and its guess may be made
 pub allowed-issue : (plan : Plan) (s : State) (g : Guess) → is_allowed plan s (Issue g) ≡ (is_allowed plan s (Issue Next) && may_at plan s g)
 unfolding bar
 allowed-issue plan s g = by (is_some s.ending) s.failed (on (cell_at s.cells 1) (Some NoSuchSite) (issue_bar plan s g))
@@ -156,7 +157,7 @@ rule-may r plan s = go s.fetch refl
     go (Running pc) e = rw e (for-may r (fetched (isa_of plan) s.mem pc))
     go Waiting e = rw e refl
 
--- it is the next word off branches and jumps
+-- for all but branches and jumps it is the next word
 of-next : (r : GuessRule) (i : Instr) → may_what Wait (Some i) ≡ false → guess_of r i ≡ Next
 unfolding guess_of kind_of
 of-next rules.Taken (Branch c a b imm) e = absurd (cc)
@@ -189,7 +190,7 @@ keeps-next : (r : GuessRule) (plan : Plan) (s : State) → guess_at r plan s ≡
 keeps-next rules.Any plan s e = refl
 keeps-next r plan s e = rw e refl
 
--- where no Issue that waits is allowed, the rule keeps each Issue that is allowed
+-- if no Issue with the guess to wait is allowed, the rule keeps each Issue that is allowed
 not-waiting : (plan : Plan) (s : State) (g : Guess) → may_at plan s Wait ≡ false → (g ≡ Next → ⊥) → may_at plan s g ≡ false
 not-waiting plan s g = go s.fetch refl
   where
@@ -251,7 +252,7 @@ pub waiting-by : (plan : Plan) (s : State) → is_allowed plan s (Issue Next) �
 waiting-by plan s next waits =
     (sym (allowed-issue plan s Taken ∙ rw (next, waits) refl), sym (allowed-issue plan s Wait ∙ rw (next, waits) refl))
 
--- the guesses that a rule leaves: all of them where it keeps every guess or none waits, and otherwise its own
+-- the guesses that a rule leaves: all of them if it keeps every guess or if none may wait, and otherwise its own
 pub any_kept : (r : GuessRule) (plan : Plan) (s : State) (g : Guess) (there any : Bool) → there ≡ is_allowed plan s (Issue g) →
     (any ≡ true → r ≡ rules.Any) → any ≡ true → there ≡ may_issue r plan s g
 any_kept r plan s g there any is means e =
@@ -318,7 +319,7 @@ at-any plan s = go s.fetch refl
 pub any_at : (r : GuessRule) (plan : Plan) (s : State) → r ≡ rules.Any → Next ≡ guess_at r plan s
 any_at r plan s e = rw e (at-any plan s)
 
--- of the Issues by the next word, taken and to wait, the first that is allowed and kept, where one guess is
+-- of the Issues by the next word, taken and to wait, the first that is allowed and kept, if a single guess is kept
 first-of : (q p : Move → Bool) (g : Guess) → q (Issue Next) ≡ true → q (Issue g) ≡ true → ((h : Guess) → p (Issue h) ≡ is_guess g h) →
     ((t : ℕ) → g ≡ To t → ⊥) → Some (Issue g) ≡ slice_get (filter p (filter q (Issue Next ∷ Issue Taken ∷ Issue Wait ∷ []))) 0
 first-of q p Next next own keeps_move none = rw (next, keeps_move Next) refl
@@ -330,7 +331,7 @@ first-of q p Wait next own keeps_move none = go (q (Issue Taken)) refl
     go false e = rw (next, e, own, keeps_move Next, keeps_move Wait) refl
 first-of q p (To t) next own keeps_move none = absurd (none t refl)
 
--- where the next word can be issued, the rule's own guess is the first that it keeps
+-- if the next word can be issued, the rule's own guess is the first that it keeps
 pub own_first : (r : GuessRule) (plan : Plan) (s : State) → is_allowed plan s (Issue Next) ≡ true →
     Some (Issue (guess_at r plan s)) ≡ slice_get (kept_issues r plan s) 0
 own_first rules.Any plan s next = rw (← at-any plan s, next) refl
@@ -364,7 +365,7 @@ all_flagged p q n t w e next taken wait emit kept =
     last true false m = absurd (cc)
     last false true m = absurd (cc)
 
--- the first that issues, by the flags
+-- the first Issue, by the flags
 pub three-flagged : (p q : Move → Bool) (n t w : Bool) → n ≡ (q (Issue Next) && p (Issue Next)) → t ≡ (q (Issue Taken) && p (Issue Taken)) →
     w ≡ (q (Issue Wait) && p (Issue Wait)) → flagged n (Issue Next) ++ (flagged t (Issue Taken) ++ (flagged w (Issue Wait) ++ []))
     ≡ filter p (filter q (Issue Next ∷ Issue Taken ∷ Issue Wait ∷ []))
@@ -374,7 +375,7 @@ three-flagged p q n t w next taken wait =
 
 -- Lists --
 
--- a test that keeps all moves but some Issue
+-- a test that keeps all moves except some Issues
 abbrev KeepsOthers : (Move → Bool) → Type 0
 KeepsOthers k = (mv : Move) → is_issue mv ≡ false → k mv ≡ true
 
@@ -404,7 +405,7 @@ pub kept-others : (k : Move → Bool) (xs : List Move) → KeepsOthers k → fil
 kept-others k [] h = refl
 kept-others k (x ∷ xs) h = kept-step k (is_issue x) x (other_moves xs) (h x) (kept-others k xs h)
 
--- what is found and kept is found among what is kept
+-- if what is found is kept, it is found among what is kept
 found-step : (p k : Move → Bool) (x m : Move) (b c : Bool) (xs rest : List Move) → p x ≡ b → (b ≡ true → c ≡ true) →
     (find p xs ≡ Some m → find p rest ≡ Some m) → cond b (Some x) (find p xs) ≡ Some m → find p (cond c (x ∷ rest) rest) ≡ Some m
 found-step p k x m true true xs rest e f more at = rw e at

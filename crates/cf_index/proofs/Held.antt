@@ -1,4 +1,4 @@
--- Which moves are not Issue, and when there are no such moves.
+-- Which moves are not an Issue, and when there are no such moves.
 use Rattle.std.proofs.Common.{◌≡◌, ◌∙◌, refl, ℕ, ◌+◌, ◌<◌, ◌≤◌, List, [], ◌∷◌, ◌++◌, length, map, Bool, true, false, nat_lt, arith}
 use Rattle.std.specs.Prelude.{not}
 use Rattle.std.proofs.lemmas.Bool.Decides.{nat_tests}
@@ -13,12 +13,12 @@ use Rattle.cf_index.specs.declared.leaving.Leaving.{Leaving}
 use Rattle.cf_index.specs.Places.{set_places}
 use Rattle.cf_index.specs.Listed.{flagged, at_word, slide_at, slides_of, passing_moves, leaving_moves}
 
--- a list of moves of which none is an Issue
+-- a list of moves none of which is an Issue
 kept : (f : ℕ → Move) (ks : List ℕ) → ((k : ℕ) → is_issue (f k) ≡ false) → other_moves (map f ks) ≡ map f ks
 kept f [] none = refl
 kept f (k ∷ ks) none = rw (none k, kept f ks none) refl
 
--- the moves of a word are not Issue, where their kind is not
+-- the moves of a word are not Issues, if their kind is not
 others_word : (kind : ℕ → Move) (w : ℕ) → ((k : ℕ) → is_issue (kind k) ≡ false) → other_moves (at_word kind w) ≡ at_word kind w
 unfolding at_word
 others_word kind w none = kept (λ k. kind (k + 1)) (set_places 64 w) (λ k. none (k + 1))
@@ -31,7 +31,7 @@ others_flag : (b : Bool) (mv : Move) → is_issue mv ≡ false → other_moves (
 others_flag true mv none = rw none refl
 others_flag false mv none = refl
 
--- nor are those of two parts
+-- nor are the moves of two parts, if neither part has an Issue
 pub others_parts : (xs ys : List Move) → other_moves xs ≡ xs → other_moves ys ≡ ys → other_moves (xs ++ ys) ≡ xs ++ ys
 others_parts xs ys p q = filter-append (λ mv. not (is_issue mv)) xs ys ∙ rw (p, q) refl
 
@@ -57,7 +57,7 @@ pub others_after : (p : Passing) (w : ℕ) (l : Leaving) → other_moves (passin
     ++ (slides_of w ++ leaving_moves l)
 others_after p w l = others_parts _ _ (others_passing p) (others_parts _ _ (others_slides w) (others_leaving l))
 
--- the moves that enter are held back where others are there
+-- Issues are held back if there are other moves
 held_others : (es others rest : List Move) → others ≡ other_moves es → other_moves rest ≡ rest → 0 < length others + length rest →
     others ++ rest ≡ held_back (es ++ rest)
 unfolding held_back
@@ -66,7 +66,7 @@ held_others es others rest e none some =
     let t : nat_lt 0 (length (others ++ rest)) ≡ true = rw (length-append others rest) (grind (arith, nat_tests)) in
     rw (f, t) refl
 
--- and not where no others are there
+-- and they are not if there are none
 held_alone : (es others rest : List Move) → others ≡ other_moves es → other_moves rest ≡ rest → length others + length rest ≡ 0 →
     es ++ rest ≡ held_back (es ++ rest)
 unfolding held_back
@@ -75,7 +75,7 @@ held_alone es others rest e none alone =
     let t : nat_lt 0 (length (others ++ rest)) ≡ false = rw (length-append others rest) (grind (arith, nat_tests)) in
     rw (f, t) refl
 
--- the same, by how many there are of each part
+-- the same, given how many moves each part has
 counted : (others ps ss ls : List Move) (a b c d : ℕ) → a ≡ length others → b ≡ length ps → c ≡ length ss → d ≡ length ls →
     length others + length (ps ++ (ss ++ ls)) ≡ a + b + c + d
 counted others ps ss ls a b c d p q r s = rw (length-append ps (ss ++ ls), length-append ss ls) (omega arith)

@@ -1,4 +1,4 @@
--- Moves that share no place, and none of which is made alone, are independent.
+-- Moves that have no place in common, and none of which is made alone, are independent.
 use Rattle.std.proofs.Common.{◌≡◌, ℕ, zero, suc, ◌+◌, ◌-◌, ◌<◌, ◌≤◌, Bool, true, false, nat_eq, nat_lt, List, [], ◌∷◌, length, Option, None, inl, inr, refl, sym, ap, ◌∙◌, arith}
 use Rattle.std.specs.Prelude.{◌⊎◌, ◌||◌, ◌&&◌, slice_get, unwrap_or}
 use Rattle.std.proofs.lemmas.Bool.Decides.{nat_tests}
@@ -18,21 +18,22 @@ use Rattle.cf_index.proofs.SharedSites.{found, shared_at, shared_place}
 use Rattle.cf_index.proofs.UsedCells.{among_ways_in, among_ways_out}
 use Rattle.cf_index.specs.Alone.{HasSidings, stands_alone}
 
--- the place at which a part of the state is guarded: those that use the cache use the lowest stage, and those that use the registers or the count the highest
+-- the place that guards a part of the state: moves that use the cache use the lowest stage, and moves that use the
+-- registers or the count use the highest
 abbrev seat : Plan → Site → Site
 seat plan Cache = Stage 1
 seat plan Registers = Stage plan.stages
 seat plan Count = Stage plan.stages
 seat plan x = x
 
--- what moves other than Serve and the Leave that ends the program only read
+-- what is only read by moves other than Serve and the Leave that ends the program
 abbrev is_read_only : Site → Bool
 is_read_only Code = true
 is_read_only Ended = true
 is_read_only Failure = true
 is_read_only x = false
 
--- the move uses the place where this is guarded, and may write it
+-- the move uses the place that guards this, and may write it
 record IsSeated (plan : Plan) (mv : Move) (x : Site) : Type 0 where
   there : uses_place plan mv (seat plan x) ≡ true
   written : is_read_only x ≡ false
@@ -50,7 +51,7 @@ later false b e = e
 last_cell : (plan : Plan) (s : State) (k : ℕ) → HasSidings plan s → last_number s k ≡ cells_of plan k - 1
 last_cell plan s k h = ap (λ (n : ℕ). n - 1) (h k)
 
--- there are no sidings past the last, and what stands for one launches and recovers nowhere
+-- there are no sidings past the last, and the entry there launches and recovers nowhere
 past : (plans : List SidingPlan) (k : ℕ) → length plans ≤ k → unwrap_or (slice_get plans k) no_siding ≡ no_siding
 past [] k h = refl
 past (plan ∷ plans) zero h = absurd (omega arith)
@@ -87,7 +88,7 @@ recover_low : (plan : Plan) (s : State) (i : ℕ) → row_bar plan s (Recover i)
 recover_low plan s zero e = absurd (cc)
 recover_low plan s (suc i) e = omega arith
 
--- the sidings at a stage
+-- the sidings of a stage
 way_in_used : (plan : Plan) (i : ℕ) (x : Site) → 1 ≤ i → is_way_in plan i x ≡ true → IsSeated plan (Launch i) x
 unfolding uses_place
 way_in_used plan i (SidingCell k c) low e =
@@ -155,7 +156,7 @@ has_stage plan s Leave free = tt
 has_stage plan s Exit free = tt
 has_stage plan s Serve free = tt
 
--- what a move uses is seated where it uses a place
+-- the guard of what a move uses is a place that the move uses
 seated : (plan : Plan) (s : State) (mv : Move) (x : Site) → HasSidings plan s → HasStage mv → stands_alone plan s mv ≡ false → uses plan s mv x ≡ true →
     IsSeated plan mv x
 unfolding uses_place
@@ -213,7 +214,7 @@ seated plan s Exit x h free plain e =
     (record { there = refl; written = refl }, (record { there = refl; written = refl }, (record { there = refl; written = refl }, tt))) e
 seated plan s Serve x h free plain e = absurd (cc)
 
--- what it reads in addition is seated likewise, or only read
+-- the same holds of what it reads in addition, unless that is only read
 read_seated : (plan : Plan) (s : State) (mv : Move) (x : Site) → stands_alone plan s mv ≡ false → only_reads mv x ≡ true →
     (uses_place plan mv (seat plan x) ≡ true) ⊎ (is_read_only x ≡ true)
 unfolding uses_place
@@ -267,12 +268,12 @@ pub record IsPlain (plan : Plan) (s : State) (mv : Move) : Type 0 where
   pub allowed : bar plan s mv ≡ None
   pub plain : stands_alone plan s mv ≡ false
 
--- a move that has its stage, and is not made alone
+-- a move whose stage exists, and which is not made alone
 record IsApart (plan : Plan) (s : State) (mv : Move) : Type 0 where
   staged : HasStage mv
   plain : stands_alone plan s mv ≡ false
 
--- what it writes is seated
+-- the move uses the guard of what it writes
 written_seated : (plan : Plan) (s : State) (mv : Move) (x : Site) → HasSidings plan s → IsApart plan s mv → writes plan s mv x ≡ true → IsSeated plan mv x
 written_seated plan s mv x h p e = go (either (uses plan s mv x) (only_writes plan s mv x) e)
   where
@@ -280,7 +281,7 @@ written_seated plan s mv x h p e = go (either (uses plan s mv x) (only_writes pl
     go (inl f) = seated plan s mv x h p.staged p.plain f
     go (inr f) = absurd (let none = writes_no_more plan s mv x p.plain in cc)
 
--- what it touches is seated, or only read
+-- the move uses the guard of what it touches, or only reads that
 touched_seated : (plan : Plan) (s : State) (mv : Move) (x : Site) → HasSidings plan s → IsApart plan s mv → (reads plan s mv x || writes plan s mv x) ≡ true →
     (uses_place plan mv (seat plan x) ≡ true) ⊎ (is_read_only x ≡ true)
 touched_seated plan s mv x h p e = go (either (reads plan s mv x) (writes plan s mv x) e)
@@ -293,7 +294,7 @@ touched_seated plan s mv x h p e = go (either (reads plan s mv x) (writes plan s
     go (inl f) = by_reads (either (uses plan s mv x) (only_reads mv x) f)
     go (inr f) = inl (written_seated plan s mv x h p f).there
 
--- so what one writes the other does not touch
+-- so neither touches what the other writes
 untouched : (plan : Plan) (s : State) (a b : Move) (x : Site) → HasSidings plan s → IsApart plan s a → IsApart plan s b → shares plan a b ≡ false →
     writes plan s a x ≡ true → (reads plan s b x || writes plan s b x) ≡ false
 untouched plan s a b x h p q apart e = go (reads plan s b x || writes plan s b x) refl
@@ -316,12 +317,12 @@ apart_independent plan s a b h p q apart back = record {
 is_apart : (plan : Plan) (s : State) (mv : Move) → IsPlain plan s mv → IsApart plan s mv
 is_apart plan s mv p = record { staged = has_stage plan s mv p.allowed; plain = p.plain }
 
--- two such moves that share no place are independent
+-- two such moves that have no place in common are independent
 pub independent : (plan : Plan) (s : State) (a b : Move) → HasSidings plan s → IsPlain plan s a → IsPlain plan s b → shares plan a b ≡ false →
     shares plan b a ≡ false → AreIndependent plan s a b
 independent plan s a b h p q apart back = apart_independent plan s a b h (is_apart plan s a p) (is_apart plan s b q) apart back
 
--- what is shared is shared either way
+-- having a place in common is symmetric
 pub unshared_back : (plan : Plan) (a b : Move) → shares plan a b ≡ false → shares plan b a ≡ false
 unshared_back plan a b e = go (shares plan b a) refl
   where
@@ -331,7 +332,7 @@ unshared_back plan a b e = go (shares plan b a) refl
         let place = shared_place plan b a f in
         absurd (let both : shares plan a b ≡ true = shared_at plan a b place.0 place.2 place.1 in cc)
 
--- a move that shares no place with a Leave does not change whether that ends the program
+-- a move that has no place in common with a Leave does not change whether that ends the program
 leave_stays : (plan : Plan) (m : Moment) (a : Move) → HasSidings plan m.state → bar plan m.state a ≡ None → stands_alone plan m.state a ≡ false →
     shares plan a Leave ≡ false → ends_there plan (next plan m a).state ≡ ends_there plan m.state
 unfolding uses_place
@@ -369,7 +370,8 @@ plain_before plan m a Leave h free plain apart e = sym (leave_stays plan m a h f
 plain_before plan m a Exit h free plain apart e = refl
 plain_before plan m a Serve h free plain apart e = absurd (cc)
 
--- two neighbouring moves of a run that share no place, neither of which is made alone, are independent where the first is made
+-- two neighbouring moves of a run that have no place in common, neither of which is made alone, are independent when
+-- the first is made
 pub apart_neighbours : (plan : Plan) (m : Moment) (a b : Move) → HasSidings plan m.state → bar plan m.state a ≡ None → bar plan (next plan m a).state b ≡ None →
     stands_alone plan m.state a ≡ false → stands_alone plan (next plan m a).state b ≡ false → shares plan a b ≡ false → AreIndependent plan m.state a b
 apart_neighbours plan m a b h free after first second apart =

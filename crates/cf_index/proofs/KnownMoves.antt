@@ -22,7 +22,7 @@ nothing (Some b) e = absurd (cc)
 pub known-free : (plan : Plan) (s : State) (mv : Move) → is_allowed plan s mv ≡ true → bar plan s mv ≡ None
 known-free plan s mv e = nothing (bar plan s mv) e
 
--- a move over the stages is allowed where the word of its kind has its bit
+-- a move over the stages is allowed if the word of its kind has its bit
 second : (a b : Bool) → (a && b) ≡ true → b ≡ true
 second true b e = e
 second false b e = absurd (cc)

@@ -1,4 +1,4 @@
--- Where an Issue is allowed a guess rule leaves exactly one, so that a move is left where there was one.
+-- If an Issue is allowed, a guess rule leaves exactly one, so that a move is left if there was one.
 use Rattle.std.proofs.Common.{◌≡◌, ◌∙◌, refl, sym, ap, ℕ, suc, ◌+◌, ◌<◌, ℤ, pos, negsuc, List, [], ◌∷◌, length, Bool, true, false, arith}
 use Rattle.std.specs.Prelude.{◌&&◌}
 use Rattle.std.proofs.Math.Bool.{and-false}
@@ -56,12 +56,12 @@ at-known r plan s = go s.fetch
     go (Running pc) = for-known r (fetched (isa_of plan) s.mem pc)
     go Waiting = refl
 
--- a rule that does not keep every guess keeps its own alone
+-- a rule that does not keep every guess keeps only its own
 keeps-own : (r : GuessRule) (plan : Plan) (s : State) (g : Guess) → (r ≡ rules.Any → ⊥) → keeps_guess r plan s g ≡ is_guess (guess_at r plan s) g
 keeps-own rules.Any plan s g off = absurd (off refl)
 keeps-own r plan s g off = refl
 
--- so where the next word may be issued, one Issue is left
+-- so if the next word may be issued, one Issue is left
 both-hold : (a b : Bool) → a ≡ true → b ≡ true → true ≡ (a && b)
 both-hold true true e f = refl
 both-hold true false e f = absurd (cc)
@@ -100,7 +100,7 @@ one-free r plan s off free = go (guess_at r plan s) refl
         (issue-other r plan s Wait Taken off e refl) (issue-own r plan s Wait off e free refl))
     go (To t) e = absurd (known t e)
 
--- no Issue is allowed where that by the next word is not
+-- if the Issue by the next word is not allowed, none is
 none-free : (plan : Plan) (s : State) → is_allowed plan s (Issue Next) ≡ false → allowed_issues plan s ≡ []
 none-free plan s e =
     let t : is_allowed plan s (Issue Taken) ≡ false = allowed-issue plan s Taken ∙ ap (λ (b : Bool). b && may_at plan s Taken) e in
@@ -115,7 +115,7 @@ one-issue r plan s off some = go (is_allowed plan s (Issue Next)) refl
     go true e = one-free r plan s off e
     go false e = let none : length (allowed_issues plan s) ≡ 0 = ap length (none-free plan s e) in absurd (omega (arith, some, none))
 
--- a move is left where there is a candidate
+-- a move is left if there is a candidate
 pub some-left : (r : GuessRule) (plan : Plan) (s : State) → 0 < length (candidates plan s) → 0 < length (guided r plan s)
 some-left rules.Any plan s some = rw (any_guided plan s) some
 some-left r plan s some = go (allowed_issues plan s) refl

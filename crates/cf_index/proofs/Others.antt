@@ -1,4 +1,4 @@
--- The allowed moves in two parts: those that issue, and the others.
+-- The allowed moves in two parts: the Issues and the others.
 use Rattle.std.proofs.Common.{◌≡◌, refl, ap, ◌<◌, ◌≤◌, List, [], ◌∷◌, ◌++◌, length, Bool, true, false, cond, nat_lt, Some, None, arith}
 use Rattle.std.specs.Prelude.{filter, slice_get}
 use Rattle.std.proofs.lemmas.Bool.Decides.{nat_tests}
@@ -17,12 +17,12 @@ use Rattle.cf_index.specs.Most.{most_leaving, most_of_kind, most_others, most_pa
 use Rattle.cf_index.proofs.Firsts.{guided_others, guided_parts}
 use Rattle.cf_index.proofs.Guided.{three-flagged}
 
--- Emit, where it is allowed
+-- Emit, if it is allowed
 pub emit_chosen : (plan : Plan) (s : State) (b : Bool) → b ≡ is_allowed plan s Emit → flagged b Emit ≡ filter (is_allowed plan s) (Emit ∷ [])
 emit_chosen plan s true e = rw (← e) refl
 emit_chosen plan s false e = rw (← e) refl
 
--- what is offered is made of those that issue and the others, where something is offered beside those that are held back
+-- if there are others, what is offered is the Issues, unless they are held back, followed by the others
 pub withheld_others : (r : GuessRule) (plan : Plan) (s : State) (held : Bool) → 0 < length (allowed_others plan s) →
     withheld held (guided r plan s) ≡ unheld_issues held r plan s ++ allowed_others plan s
 unfolding held_back
@@ -49,7 +49,7 @@ few_parts plan s passing slides leaving =
     let c = length-append (filter q (slides_from 0 plan.sidings)) (filter q (all_leaving plan)) in
     omega (arith, one, a, b, c, passing, slides, leaving)
 
--- the first that issues, by whether each of the three is left
+-- the first Issue, by whether each of the three is left
 pub issue_next : (r : GuessRule) (plan : Plan) (s : State) (n t w : Bool) → n ≡ may_issue r plan s Next → t ≡ may_issue r plan s Taken →
     w ≡ may_issue r plan s Wait → n ≡ true → Some (Issue Next) ≡ slice_get (kept_issues r plan s) 0
 issue_next r plan s n t w next taken wait e =

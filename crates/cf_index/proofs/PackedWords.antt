@@ -151,7 +151,7 @@ one_at : (packed_at (0 + 0) ≡ Issue Next) × (packed_at (1 + 0) ≡ Issue Take
 unfolding packed_at
 one_at = (refl, refl, refl, refl, refl, refl, refl, refl)
 
--- the bits of the moves within the stages, and those behind them
+-- the bits of the moves within the stages, and those that follow them
 pub passing_joined : (p : Passing) (rest : ℕ) → FitsEight p →
     packed_from 4 60 (p.climb + 256 * (p.fall + 256 * (p.meet + 256 * (p.execute + 256 * (p.send + 256 * (p.launch + 256 * rest))))))
     ≡ passing_moves p ++ packed_from 52 12 rest
@@ -172,7 +172,7 @@ passing_joined p rest fits =
     behind : (xs : List Move) {ys zs : List Move} → ys ≡ zs → xs ++ ys ≡ xs ++ zs
     behind xs e = ap (λ (l : List Move). xs ++ l) e
 
--- Emit, and the bits behind it
+-- Emit, and the bits that follow it
 pub emit_joined : (f : Bool) (rest : ℕ) → packed_from 3 61 (bool_byte f + 2 * rest) ≡ flagged f Emit ++ packed_from 4 60 rest
 emit_joined f rest = flag_joined Emit 3 60 f rest one_at.3
 

@@ -9,7 +9,7 @@ use Rattle.cf_index.specs.Places.{set_places}
 use Rattle.cf_index.specs.Listed.{flagged, at_word, slides_of, slide_at}
 use Rattle.cf_index.proofs.Places.{places_zero}
 
--- how many moves a word stands for
+-- how many moves a word lists
 pub length-at_word : (kind : ℕ → Move) (w : ℕ) → length (at_word kind w) ≡ length (set_places 64 w)
 unfolding at_word
 length-at_word kind w = length-map (set_places 64 w) (λ k. kind (k + 1))
@@ -54,7 +54,7 @@ of_slides w j i e = rw (slice_get-map slide_at (set_places 64 w) i, ← e) refl
 
 pub ruleset lengths = (length-append, length-at_word, length-slides_of)
 
--- a word without a bit stands for no move
+-- a word without a bit lists no move
 pub at_word-zero : (kind : ℕ → Move) → at_word kind 0 ≡ []
 unfolding at_word
 at_word-zero kind = rw (places_zero 64) refl
@@ -65,7 +65,7 @@ slides_of-zero = rw (places_zero 64) refl
 
 pub ruleset nothing = (at_word-zero, slides_of-zero)
 
--- a flag stands for one move or none
+-- a flag lists one move or none
 pub length_flag : (b : Bool) (mv : Move) → bool_byte b ≡ length (flagged b mv)
 length_flag true mv = refl
 length_flag false mv = refl
@@ -81,12 +81,12 @@ at_flag true mv zero ys below = refl
 at_flag true mv (suc i) ys below = absurd (omega arith)
 at_flag false mv i ys below = absurd (omega arith)
 
--- and where no move comes after it
+-- and it is the only one if no move follows
 pub only_flag : (b : Bool) (mv : Move) (i : ℕ) → i < length (flagged b mv) → Some mv ≡ slice_get (flagged b mv) i
 only_flag true mv zero below = refl
 only_flag true mv (suc i) below = absurd (omega arith)
 only_flag false mv i below = absurd (omega arith)
 
--- what is left of the place of a move after the first part
+-- the index of a move after the first part, less the length of that part
 pub rest_below : {X : Type 0} (xs ys : List X) (n i : ℕ) → n ≡ length xs → n ≤ i → i < length (xs ++ ys) → i - n < length ys
 rest_below xs ys n i e after below = let l = rw (length-append xs ys) at below in omega arith

@@ -1,4 +1,4 @@
--- How many moves come before the first after another.
+-- How many moves come before the first one after another move.
 use Rattle.std.proofs.Common.{◌≡◌, ◌∙◌, refl, ℕ, zero, suc, ◌+◌, ◌<◌, ◌≤◌, List, [], ◌∷◌, ◌++◌, length, map, Bool, true, false, cond, nat_lt, arith}
 use Rattle.std.specs.Prelude.{filter, not}
 use Rattle.std.specs.List.{prefix_len}
@@ -11,14 +11,14 @@ use Rattle.cf_index.specs.Places.{set_places}
 use Rattle.cf_index.specs.Listed.{flagged, at_word}
 use Rattle.cf_index.specs.Order.{kind_place, below_or, stands_after, passed_moves}
 
--- a move of an earlier kind does not come after the last move, and one of a later kind does
+-- a move of an earlier kind does not come after the last move, and a move of a later kind does
 pub earlier : (last mv : Move) → kind_place mv < kind_place last → stands_after last mv ≡ false
 earlier last mv before = grind (arith, nat_tests)
 
 pub later : (last mv : Move) → kind_place last < kind_place mv → stands_after last mv ≡ true
 later last mv after = grind (arith, nat_tests)
 
--- one move more that is passed, as all after it in the first part are
+-- one more move is passed, if all those after it in the first part are
 all_step : (b : Bool) (m l n k : ℕ) → cond (not b) (1 + m) 0 ≡ suc l → (m ≡ l → n ≡ l + k) → cond (not b) (1 + n) 0 ≡ suc l + k
 all_step true m l n k e more = absurd (omega arith)
 all_step false m l n k e more = let h = more (omega arith) in omega arith
@@ -35,7 +35,7 @@ unfolding passed_moves
 passed_part last [] ys none = none
 passed_part last (x ∷ xs) ys none = rw (passed_part last xs ys none) refl
 
--- the moves of a function, all or none of which come after
+-- the moves of a function: all come after, or none do
 pub map_none : (last : Move) (f : ℕ → Move) (ks : List ℕ) → ((k : ℕ) → stands_after last (f k) ≡ true) → passed_moves last (map f ks) ≡ 0
 unfolding passed_moves
 map_none last f [] after = refl
@@ -46,7 +46,7 @@ unfolding passed_moves
 map_all last f [] before = refl
 map_all last f (k ∷ ks) before = rw (before k, map_all last f ks before) (omega arith)
 
--- and those that come after from some number on
+-- or those from some number on come after
 pub map_part : (last : Move) (f : ℕ → Move) (i : ℕ) (ks : List ℕ) → ((k : ℕ) → not (stands_after last (f k)) ≡ nat_lt k i) →
     passed_moves last (map f ks) ≡ prefix_len (λ k. nat_lt k i) ks
 unfolding passed_moves
@@ -74,14 +74,14 @@ ascending_choice : (b : Bool) (i a : ℕ) (xs : List ℕ) → (nat_lt a i ≡ fa
 ascending_choice false i a xs high e = e
 ascending_choice true i a xs high e = ascending_first (nat_lt a i) i a xs refl high e
 
--- ascending numbers, of which those below i are passed
+-- ascending numbers: those below i are passed
 pub ascending : (p : ℕ → Bool) (i a n : ℕ) → prefix_len (λ k. nat_lt k i) (filter p (counted_from a n))
     ≡ length (filter (λ k. nat_lt k i) (filter p (counted_from a n)))
 ascending p i a zero = refl
 ascending p i a (suc n) = ascending_choice (p a) i a (filter p (counted_from (suc a) n)) (λ off. none_below p i (suc a) n (grind (arith, nat_tests)))
     (ascending p i (suc a) n)
 
--- the moves of a word, all passed, none passed, or those at the stages up to one
+-- the moves of a word: all are passed, none are, or those at the stages up to one
 pub step_all : (last : Move) (kind : ℕ → Move) (w : ℕ) (ys : List Move) → ((k : ℕ) → stands_after last (kind k) ≡ false) →
     passed_moves last (at_word kind w ++ ys) ≡ length (set_places 64 w) + passed_moves last ys
 unfolding at_word
@@ -102,7 +102,7 @@ pub word_part : (last : Move) (kind : ℕ → Move) (i w : ℕ) → ((k : ℕ) �
 unfolding at_word set_places
 word_part last kind i w part = map_part last (λ k. kind (k + 1)) i (filter (has_bit w) (counted_from 0 64)) part ∙ ascending (has_bit w) i 0 64
 
--- two parts, all passed or none
+-- two parts: all are passed, or none are
 pub both_none : (last : Move) (xs ys : List Move) → passed_moves last xs ≡ 0 → passed_moves last ys ≡ 0 → passed_moves last (xs ++ ys) ≡ 0
 both_none last xs ys e f = passed_part last xs ys f ∙ e
 
@@ -118,7 +118,7 @@ step_part last kind i w ys part none = passed_part last (at_word kind w) ys none
 pub up_to : (i k : ℕ) → not (below_or i (k + 1) false) ≡ nat_lt k i
 up_to i k = grind (arith, nat_tests)
 
--- a flag's move
+-- the move of a flag
 pub flag_none : (last : Move) (b : Bool) (mv : Move) → stands_after last mv ≡ true → passed_moves last (flagged b mv) ≡ 0
 unfolding passed_moves
 flag_none last true mv after = rw after refl

@@ -1,4 +1,5 @@
--- How many of the moves that enter, that stand within the sidings and that leave come before the first after another.
+-- How many of the moves that enter, of those within the sidings and of those that leave come before the first one after
+-- another move.
 use Rattle.std.proofs.Common.{◌≡◌, ◌∙◌, sym, refl, ap, ℕ, ◌+◌, ◌*◌, ◌/◌, ◌%◌, ◌<◌, ◌≤◌, ◌++◌, List, length, Bool, false, nat_lt, arith}
 use Rattle.std.specs.Prelude.{filter, not, if◌then◌else◌}
 use Rattle.std.proofs.lemmas.Bool.Decides.{nat_tests}
@@ -20,7 +21,7 @@ use Rattle.cf_index.proofs.Passed.{earlier, later, map_all, map_none, map_part, 
 not_emit : (last : Move) → 1 ≤ kind_place last → stands_after last Emit ≡ false
 not_emit last after = grind (arith, nat_tests)
 
--- all that enter, by Emit or a move of a later kind
+-- after Emit or a move of a later kind all that enter are passed
 pub entering_all : (e : Entering) (last : Move) → 1 ≤ kind_place last → passed_moves last (entering_moves e) ≡ length (entering_moves e)
 unfolding entering_moves
 entering_all e last after =
@@ -28,14 +29,14 @@ entering_all e last after =
     both_all last _ _ (flag_all last e.taken (Issue Taken) (earlier last (Issue Taken) (omega arith))) (
     both_all last _ _ (flag_all last e.wait (Issue Wait) (earlier last (Issue Wait) (omega arith))) (flag_all last e.emit Emit (not_emit last after))))
 
--- the cells of a siding that do not come after a cell: as many as up to it, of 8
+-- how many of a siding's 8 cells are passed after a move from cell c: those up to it
 abbrev cells_up_to : ℕ → ℕ
 cells_up_to c = if nat_lt c 7 then c + 1 else 8
 
 within_up_to : (k c j : ℕ) → not (below_or k (j / 8) (nat_lt c (j % 8))) ≡ nat_lt j (8 * k + cells_up_to c)
 within_up_to k c j = grind (arith, nat_tests)
 
--- the moves within the sidings, by one of them
+-- the moves within the sidings, after one of them
 pub passed_slides : (w k c : ℕ) → passed_moves (Slide k c) (slides_of w) ≡ length (filter (λ j. nat_lt j (8 * k + cells_up_to c)) (set_places 64 w))
 unfolding slides_of set_places
 passed_slides w k c = map_part (Slide k c) slide_at (8 * k + cells_up_to c) (filter (has_bit w) (counted_from 0 64)) (λ j. within_up_to k c j)
@@ -49,7 +50,7 @@ pub slides_all : (w : ℕ) (last : Move) → 8 < kind_place last → passed_move
 unfolding slides_of
 slides_all w last after = map_all last slide_at (set_places 64 w) (λ j. earlier last (slide_at j) (omega arith))
 
--- none of those that leave, by a move of an earlier kind
+-- after a move of an earlier kind none of those that leave is passed
 pub leaving_none : (l : Leaving) (last : Move) → kind_place last < 9 → passed_moves last (leaving_moves l) ≡ 0
 unfolding leaving_moves
 leaving_none l last before =
@@ -58,7 +59,7 @@ leaving_none l last before =
     both_none last _ _ (flag_none last l.leave Leave (later last Leave (omega arith))) (
     both_none last _ _ (flag_none last l.exit Exit (later last Exit (omega arith))) (flag_none last l.serve Serve (later last Serve (omega arith))))))
 
--- that is, of any kind but those that leave
+-- such a move is of any kind but those that leave
 pub enters_or_passes : (last : Move) → (last ≡ Access → ⊥) → ((i : ℕ) → last ≡ Recover i → ⊥) → (last ≡ Leave → ⊥) → (last ≡ Exit → ⊥) → (last ≡ Serve → ⊥) →
     kind_place last < 9
 enters_or_passes Access access recover leave exit serve = absurd (access refl)
@@ -68,12 +69,12 @@ enters_or_passes Exit access recover leave exit serve = absurd (exit refl)
 enters_or_passes Serve access recover leave exit serve = absurd (serve refl)
 enters_or_passes last access recover leave exit serve = omega arith
 
--- a flag's move that is passed, before others
+-- the move of a flag is passed, before others
 flag_step : (last : Move) (b : Bool) (mv : Move) (ys : List Move) → stands_after last mv ≡ false →
     passed_moves last (flagged b mv ++ ys) ≡ bool_byte b + passed_moves last ys
 flag_step last b mv ys before = passed_all last (flagged b mv) ys (flag_all last b mv before) ∙ rw (length_flag b mv) refl
 
--- and before others of which none is passed
+-- the same before others of which none is passed
 flag_last : (last : Move) (b : Bool) (mv : Move) (ys : List Move) → stands_after last mv ≡ false → passed_moves last ys ≡ 0 →
     passed_moves last (flagged b mv ++ ys) ≡ bool_byte b
 flag_last last b mv ys before none = passed_part last (flagged b mv) ys none ∙ flag_all last b mv before ∙ sym (length_flag b mv)

@@ -1,4 +1,4 @@
--- How many of the moves in the stages come before the first after another.
+-- How many of the moves in the stages come before the first one after another move.
 use Rattle.std.proofs.Common.{◌≡◌, ◌∙◌, refl, ap, ℕ, ◌+◌, ◌<◌, length, nat_lt, arith}
 use Rattle.std.specs.Prelude.{filter}
 use Rattle.cf_bind.specs.declared.moves.Move.{Move}
@@ -67,7 +67,7 @@ passed_launch p i =
     step_all (Launch i) Send p.send _ (λ k. refl) ∙ ap (λ n. length (set_places 64 p.send) + n) (
     word_part (Launch i) Launch i p.launch (λ k. up_to i k))))))
 
--- none of them, by a move of an earlier kind
+-- after a move of an earlier kind none of them is passed
 pub passing_none : (p : Passing) (last : Move) → kind_place last < 2 → passed_moves last (passing_moves p) ≡ 0
 unfolding passing_moves
 passing_none p last before =
@@ -78,7 +78,7 @@ passing_none p last before =
     (both_none last _ _ (word_none last Send p.send (λ k. later last (Send k) (omega arith)))
     (word_none last Launch p.launch (λ k. later last (Launch k) (omega arith)))))))
 
--- all of them, by a move of a later kind
+-- after a move of a later kind all of them are
 pub passing_all : (p : Passing) (last : Move) → 7 < kind_place last → passed_moves last (passing_moves p) ≡ length (passing_moves p)
 unfolding passing_moves
 passing_all p last after =

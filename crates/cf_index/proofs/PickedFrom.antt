@@ -28,7 +28,7 @@ use Rattle.cf_index.proofs.Places.{places_zero}
 use Rattle.cf_index.proofs.Ranks.{all_leaving_past, flag_barred, flag_here, flag_late, found_past, late_slides, later, none_after, none_mapped, none_parts, sooner, word_gone}
 use Rattle.cf_index.proofs.Rows.{recover-stages}
 
--- the next kind's moves are those after this kind's
+-- the moves from a kind on are those of that kind, followed by those from the next kind on
 pub after_climbs : (plan : Plan) (s : State) → from_climb plan s ≡ at_word Climb (passing_of plan s).climb ++ from_fall plan s
 unfolding from_climb from_fall
 after_climbs plan s = append_assoc (at_word Climb (passing_of plan s).climb) (fall_on plan s) (outward_on plan s)
@@ -53,7 +53,7 @@ pub after_launches : (plan : Plan) (s : State) → from_launch plan s ≡ at_wor
 unfolding from_launch
 after_launches plan s = refl
 
--- Emit comes before all of them, where it is allowed
+-- Emit comes before all of them, if it is allowed
 pub emit_here : (plan : Plan) (s : State) (r : Rank) → r.kind < 1 → is_allowed plan s Emit ≡ true → find (is_past r) (from_emit plan s) ≡ Some Emit
 unfolding from_emit
 emit_here plan s r early free = rw (free, later r Emit early) refl
@@ -76,12 +76,12 @@ emit_late plan s r late = late_part (is_past r) (is_allowed plan s Emit) (from_c
 
 pub ruleset emitting = (emit_here, emit_off, emit_late)
 
--- past a rank of a later kind none of the word is left
+-- past a rank of a later kind no move of the word is left
 word_late : (r : Rank) (kind : ℕ → Move) (w : ℕ) (ys : List Move) → ((k : ℕ) → kind_place (kind (k + 1)) < r.kind) →
     find (is_past r) ys ≡ find (is_past r) (at_word kind w ++ ys)
 word_late r kind w ys late = word_gone r kind w 0 ys (λ k. none_after r kind w k (late k)) (sym (rw (places_zero 64) refl))
 
--- Emit does not come after a move but an Issue, so that what comes after it is among the moves after Emit
+-- Emit comes only after an Issue, so what comes after any other move is among the moves after Emit
 not_emit : (last : Move) → 1 ≤ kind_place last → stands_after last Emit ≡ false
 not_emit last some = grind (arith, nat_tests)
 
@@ -99,7 +99,7 @@ pub last_is : (plan : Plan) (s : State) (last : Move) → 1 ≤ kind_place last 
 unfolding IsLast
 last_is plan s last some none = without_emit plan s last some ∙ none
 
--- after a move that is not within the sidings, and not an Issue, the first past its rank is picked
+-- after a move that is neither within the sidings nor an Issue, the first move past its rank is picked
 pub picked_after : (rule : GuessRule) (held : Bool) (plan : Plan) (s : State) (last : Move) → plan.stages ≤ 32 → 1 ≤ kind_place last →
     kind_place last ≢ slide_place → IsPickedFrom rule held plan s (Some last) (rank_of last) (from_climb plan s)
 unfolding IsPickedFrom from_climb
@@ -113,7 +113,7 @@ picked_after rule held plan s last few some other =
       gone = λ none. last_so plan s last some (sym same ∙ none);
     }
 
--- so it is where the search begins with a later kind, none of whose earlier kinds comes after
+-- the same holds if the search begins with a later kind, and no move of the earlier kinds comes after
 pub picked_on : (rule : GuessRule) (held : Bool) (plan : Plan) (s : State) (last : Option Move) (r : Rank) (xs ys : List Move) →
     find (is_past r) ys ≡ find (is_past r) xs → IsPickedFrom rule held plan s last r xs → IsPickedFrom rule held plan s last r ys
 unfolding IsPickedFrom
@@ -261,7 +261,7 @@ exited_on rule held plan s few =
     (past_exit plan s (rank_of Exit) (omega arith))
     (picked_after rule held plan s Exit few (omega arith) (λ e. absurd (omega (arith, e))))
 
--- the first of each kind that has one move, and the others where it is barred or does not come after
+-- of each kind that has one move, that move if it is allowed and comes after, and otherwise the kinds after it
 pub access_here : (plan : Plan) (s : State) (r : Rank) → r.kind < 9 → is_allowed plan s Access ≡ true →
     find (is_past r) (from_access plan s) ≡ Some Access
 unfolding from_access
@@ -308,12 +308,12 @@ exit_late plan s r late = flag_late r (is_allowed plan s) Exit (Serve ∷ []) (n
 
 pub ruleset exiting = (exit_here, exit_off, exit_late)
 
--- where Serve is barred too, none is left
+-- if Serve is barred too, none is left
 pub serve_off : (plan : Plan) (s : State) (r : Rank) → is_allowed plan s Serve ≡ false → find (is_past r) (from_serve plan s) ≡ None
 unfolding from_serve
 serve_off plan s r barred = rw barred refl
 
--- the Recovers, and after them what is left
+-- the Recovers, and the moves of the kinds after them
 pub after_recovers : (plan : Plan) (s : State) (m : Masks) → plan.stages ≤ 32 → m ≡ masks_of plan s →
     from_recover plan s ≡ at_word Recover m.recover ++ from_leave plan s
 unfolding from_recover from_leave
@@ -324,7 +324,7 @@ after_recovers plan s m few is =
 
 -- Within the sidings --
 
--- the first of the allowed ones, and what follows where there is none
+-- the first of the allowed ones, and what follows if there is none
 pub slide_here : (plan : Plan) (s : State) (r : Rank) (o : Option Move) (mv : Move) →
     o ≡ find (is_past r) (filter (is_allowed plan s) (slides_from 0 plan.sidings)) → o ≡ Some mv → find (is_past r) (outward_on plan s) ≡ Some mv
 slide_here plan s r o mv e is = found_first (is_past r) _ (filter (is_allowed plan s) (all_leaving plan)) mv (sym e ∙ is)
@@ -334,7 +334,7 @@ pub slide_gone : (plan : Plan) (s : State) (r : Rank) (o : Option Move) → o �
 unfolding from_access
 slide_gone plan s r o e is = sym (found_second (is_past r) _ (filter (is_allowed plan s) (all_leaving plan)) (sym e ∙ is))
 
--- nothing over the stages comes after a Slide
+-- no move over the stages comes after a Slide
 none_passing : (plan : Plan) (q : Move → Bool) (k c : ℕ) → find (stands_after (Slide k c)) (filter q (all_passing plan)) ≡ None
 none_passing plan q k c =
     let p = stands_after (Slide k c) in
@@ -345,7 +345,7 @@ none_passing plan q k c =
     none_parts p q _ _ (none_mapped p q Execute stages (λ i. refl)) (
     none_parts p q _ _ (none_mapped p q Send stages (λ i. refl)) (none_mapped p q Launch stages (λ i. refl))))))
 
--- as many of a list as do not come after are all of it
+-- if all moves of a list are passed, none comes after
 beyond_step : (p : Move → Bool) (b : Bool) (x : Move) (xs : List Move) → p x ≡ b → suc (length xs) ≤ prefix_len (λ mv. not (p mv)) (x ∷ xs) →
     (length xs ≤ prefix_len (λ mv. not (p mv)) xs → find p xs ≡ None) → find p (x ∷ xs) ≡ None
 beyond_step p true x xs e all rest = absurd (let none : prefix_len (λ mv. not (p mv)) (x ∷ xs) ≡ 0 = rw e refl in omega (arith, all, none))
@@ -357,7 +357,7 @@ none_beyond : (p : Move → Bool) (xs : List Move) → length xs ≤ prefix_len 
 none_beyond p [] all = refl
 none_beyond p (x ∷ xs) all = beyond_step p (p x) x xs refl all (none_beyond p xs)
 
--- after the last Slide the first by which something leaves is picked
+-- after the last Slide the first move by which something leaves is picked
 slide_picked : (rule : GuessRule) (held : Bool) (plan : Plan) (s : State) (k c : ℕ) →
     find (stands_after (Slide k c)) (filter (is_allowed plan s) (slides_from 0 plan.sidings)) ≡ None →
     IsPickedFrom rule held plan s (Some (Slide k c)) first_rank (from_access plan s)

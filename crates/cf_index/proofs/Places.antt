@@ -28,7 +28,7 @@ has_high : (w a j : ℕ) → has_bit w (a + j) ≡ has_bit (w / 2 ^ a) j
 unfolding has_bit
 has_high w a j = rw (shr-shr w a j) refl
 
--- the numbers of a word are the low ones and then the high ones
+-- the numbers of a word are the low ones, followed by the high ones
 pub places_split : (a b w : ℕ) → set_places (a + b) w ≡ set_places a (w % 2 ^ a) ++ map (λ j. a + j) (set_places b (w / 2 ^ a))
 unfolding set_places
 places_split a b w =
@@ -53,7 +53,7 @@ places_none : (w : ℕ) → length (set_places 0 w) ≡ 0
 unfolding set_places
 places_none w = refl
 
--- how many numbers a word has is how many of its bits are set
+-- a word has as many numbers as bits that are set
 pub count_places : (n w : ℕ) → w < 2 ^ n → count_ones w ≡ length (set_places n w)
 count_places zero w small = let e : w ≡ 0 = omega arith in rw (e, count_none, places_none 0) refl
 count_places (suc n) w small =
@@ -77,7 +77,7 @@ lowest w some small =
     let t = bit_at-trailing_zeros w64 w some small in
     filter_first (has_bit w) 0 64 (trailing_zeros w64 w) (omega arith) (omega (arith, t.0)) (rw (t.1) refl) (λ i low high. rw (t.2 i high) refl)
 
--- a word less its lowest bit has the numbers after the lowest
+-- a word without its lowest bit has the numbers after the lowest
 odd_less : (m : ℕ) → bit_and (m * 2 ^ 1 + 1) (m * 2 ^ 1 + 1 - 1) ≡ m * 2 ^ 1 + 0
 odd_less m = let e : m * 2 ^ 1 + 1 - 1 ≡ m * 2 ^ 1 + 0 = omega arith in rw (e, and_block 1 m m 1 0 (omega arith) (omega arith), and_self m) refl
 
@@ -137,7 +137,7 @@ places_below k b w =
     let s = places_split k b w in
     rw s (rw (filter-append (λ j. nat_lt j k) (set_places k (w % 2 ^ k)) (map (λ j. k + j) (set_places b (w / 2 ^ k))), none, low, append-nil) refl)
 
--- all of them are where k is no smaller than the width
+-- all of them are below k if k is at least the width
 pub places_all_below : (n k w : ℕ) → n ≤ k → filter (λ j. nat_lt j k) (set_places n w) ≡ set_places n w
 unfolding set_places
 places_all_below n k w wide = filter_below (has_bit w) k 0 n (omega arith)
@@ -164,13 +164,13 @@ some_place n (suc w) some = omega arith
 pub some_left : (w rest i : ℕ) → i < length (set_places 64 w) → set_places 64 rest ≡ drop i (set_places 64 w) → 1 ≤ rest
 some_left w rest i more e = let l = ap length e ∙ length-drop i (set_places 64 w) in some_place 64 rest (omega arith)
 
--- the first that is left
+-- the first number that is left
 first_left : (i : ℕ) (xs : List ℕ) → slice_get (drop i xs) 0 ≡ slice_get xs i
 first_left zero xs = refl
 first_left (suc i) [] = refl
 first_left (suc i) (x ∷ xs) = first_left i xs
 
--- the numbers after the first i are those of a word that is left
+-- without its lowest number the word that is left has the numbers after the first i + 1
 pub one_passed : (w rest i : ℕ) → rest < 2 ^ 64 → i < length (set_places 64 w) → set_places 64 rest ≡ drop i (set_places 64 w) →
     set_places 64 (bit_and rest (rest - 1)) ≡ drop (i + 1) (set_places 64 w)
 one_passed w rest i small more e =
@@ -178,7 +178,7 @@ one_passed w rest i small more e =
     let some : 0 < rest = some_place 64 rest (omega arith) in
     cleared 64 rest some small ∙ rw e (drop-drop 1 i (set_places 64 w))
 
--- the lowest of them is the next
+-- the lowest number that is left is the next one
 pub next_place : (w rest i : ℕ) → rest < 2 ^ 64 → i < length (set_places 64 w) → set_places 64 rest ≡ drop i (set_places 64 w) →
     Some (trailing_zeros w64 rest) ≡ slice_get (set_places 64 w) i
 next_place w rest i small more e =
@@ -186,7 +186,7 @@ next_place w rest i small more e =
     let some : 0 < rest = some_place 64 rest (omega arith) in
     sym (lowest rest some small) ∙ rw e (first_left i (set_places 64 w))
 
--- there are no more numbers than the width
+-- there are at most as many numbers as the width
 most_choice : (b : Bool) (k n : ℕ) (xs : List ℕ) → length xs ≤ n → length (cond b (k ∷ xs) xs) ≤ suc n
 most_choice true k n xs few = omega arith
 most_choice false k n xs few = omega arith

@@ -31,11 +31,11 @@ sooner r mv before = grind (arith, nat_tests)
 pub later : (r : Rank) (mv : Move) → r.kind < kind_place mv → is_past r mv ≡ true
 later r mv after = grind (arith, nat_tests)
 
--- a stage above number i comes after it
+-- a stage above that of the rank comes after it
 pub above : (i k : ℕ) → not (nat_lt k i) ≡ nat_lt i (k + 1)
 above i k = grind (arith, nat_tests)
 
--- a word without a bit, where none comes after
+-- a word without a bit, if none comes after
 none_left : (a b : Bool) → b ≡ false → false ≡ (a && b)
 none_left true b off = sym off
 none_left false b off = refl
@@ -43,13 +43,13 @@ none_left false b off = refl
 pub nothing_left : (w k : ℕ) (b : Bool) → b ≡ false → has_bit 0 k ≡ (has_bit w k && b)
 nothing_left w k b off = no_bits k ∙ none_left (has_bit w k) b off
 
--- so where the rank is past the kind no stage is left
+-- so if the rank is past the kind, no stage is left
 pub none_after : (r : Rank) (kind : ℕ → Move) (w k : ℕ) → kind_place (kind (k + 1)) < r.kind → has_bit 0 k ≡ (has_bit w k && is_past r (kind (k + 1)))
 none_after r kind w k late = nothing_left w k (is_past r (kind (k + 1))) (sooner r (kind (k + 1)) late)
 
 -- Words --
 
--- of the moves of a word the first after the rank is the first of the word of those after it
+-- of the moves of a word, the first after the rank is the first in the word of those after it
 pick_step : (p : Move → Bool) (f : ℕ → Move) (b q : Bool) (k : ℕ) (xs us : List ℕ) (ys : List Move) → p (f k) ≡ q →
     find p (map f xs ++ ys) ≡ on (slice_get us 0) (find p ys) (λ j. Some (f j)) →
     find p (map f (cond b (k ∷ xs) xs) ++ ys) ≡ on (slice_get (cond (b && q) (k ∷ us) us) 0) (find p ys) (λ j. Some (f j))
@@ -157,7 +157,7 @@ slides_none w none = rw (none, slides_of-zero) refl
 
 pub ruleset first_sliding = (slides_here, slides_none)
 
--- all come after an earlier kind, and none after a later one
+-- all of them come after a rank of an earlier kind, and none after one of a later kind
 pub early_slides : (plan : Plan) (s : State) (r : Rank) (w : ℕ) → r.kind < slide_place → slides_of w ≡ filter (is_allowed plan s) (slides_from 0 plan.sidings) →
     slice_get (slides_of w) 0 ≡ find (is_past r) (filter (is_allowed plan s) (slides_from 0 plan.sidings))
 early_slides plan s r w early e = rw e (sym (all_slides r (is_allowed plan s) 0 plan.sidings early))
@@ -201,7 +201,7 @@ pub flag_late : (r : Rank) (q : Move → Bool) (mv : Move) (xs : List Move) → 
     find (is_past r) (filter q xs) ≡ find (is_past r) (filter q (mv ∷ xs))
 flag_late r q mv xs late = late_step (is_past r) (q mv) mv (filter q xs) late
 
--- none of the stages, where no move of the kind is past
+-- no stage is left, if no move of the kind is past the rank
 pub none_mapped : (p q : Move → Bool) (kind : ℕ → Move) (ks : List ℕ) → ((k : ℕ) → p (kind k) ≡ false) → find p (filter q (map kind ks)) ≡ None
 none_mapped p q kind [] before = refl
 none_mapped p q kind (k ∷ ks) before = none_step p q (q (kind k)) (kind k) (map kind ks) (before k) (none_mapped p q kind ks before)
@@ -211,7 +211,7 @@ none_parts p q xs ys e f = rw (filter-append q xs ys) (found_second p (filter q 
 
 -- The rank of a move --
 
--- what comes after it comes after the move, where the move is neither within the sidings nor an Issue
+-- what comes after its rank comes after the move, if the move is neither within the sidings nor an Issue
 same_past : (last mv : Move) → 0 < kind_place last → kind_place last ≢ slide_place → is_past (rank_of last) mv ≡ stands_after last mv
 same_past last mv some other = grind (arith, nat_tests)
 
@@ -227,7 +227,7 @@ pub found_rank : (r : Rank) (last : Move) (xs : List Move) (o : Option Move) →
     o ≡ find (is_past r) xs → o ≡ find (stands_after last) xs
 found_rank r last xs o stands some other e = e ∙ ap (λ (q : Rank). find (is_past q) xs) stands ∙ found_past last xs some other
 
--- what is found in the first part, or else in the second
+-- what is found in the first part, or otherwise in the second
 pub found_here : (p : Move → Bool) (xs ys : List Move) (o : Option Move) (mv : Move) → o ≡ find p xs → o ≡ Some mv → Some mv ≡ find p (xs ++ ys)
 found_here p xs ys o mv e is = sym (found_first p xs ys mv (sym e ∙ is))
 

@@ -1,4 +1,4 @@
--- The words of a processor say where the rows of Climb, Fall, Meet and Send are free.
+-- The words of a processor say at which stages nothing bars Climb, Fall, Meet and Send.
 use Rattle.std.proofs.Common.{◌≡◌, ◌∙◌, refl, sym, ap, ℕ, zero, suc, ◌+◌, ◌-◌, ◌<◌, ◌≤◌, List, [], ◌∷◌, length, Option, Some, None, Bool, true, false, nat_lt, arith}
 use Rattle.std.specs.Prelude.{◌&&◌, if◌then◌else◌, nat_eq, not, slice_get}
 use Rattle.std.specs.Int.{bit_at}
@@ -32,7 +32,7 @@ has_case test n k false e = let high : n ≤ k = grind (arith, nat_tests) in wor
 pub word-has : (test : ℕ → Bool) (n k : ℕ) → has_bit (word_of test n) k ≡ (nat_lt k n && test (k + 1))
 word-has test n k = has_case test n k (nat_lt k n) refl
 
--- there is a stage of each number up to their count
+-- there is a stage for each number up to their count
 some_case : (cells : List Cell) (k : ℕ) (within : Bool) → nat_lt k (length cells) ≡ within → is_some (slice_get cells k) ≡ within
 some_case [] k true e = absurd (grind (arith, nat_tests))
 some_case [] k false e = refl
@@ -53,7 +53,7 @@ no_cell cells k e = none_there (cell_at cells (k + 1)) e
     none_there None f = refl
     none_there (Some c) f = absurd (cc)
 
--- a test of what stands in a stage says nothing of a stage that does not exist
+-- a test of what is in a stage fails if the stage does not exist
 beyond : {A : Type 0} (o : Option A) (test : A → Bool) → (is_some o && on o false test) ≡ on o false test
 beyond None test = refl
 beyond (Some a) test = refl
@@ -64,7 +64,7 @@ cell-bit test cells n k e =
     rw e (word-has (λ i. on (cell_at cells i) false test) (length cells) k ∙ ap (λ (b : Bool). b && on (cell_at cells (k + 1)) false test)
     (sym (some-cell cells k)) ∙ beyond (cell_at cells (k + 1)) test)
 
--- what stands in a stage
+-- what is in a stage
 riding : Option Cell → Bool
 riding o = on o false (λ c. is_some c.passenger)
 
@@ -88,7 +88,7 @@ record Bits (plan : Plan) (s : State) (m : Masks) (k : ℕ) : Type 0 where
   owing : has_bit m.owes k ≡ owing (cell_at s.cells (k + 1))
   stopping : has_bit m.stops k ≡ stopping plan (k + 1) (cell_at s.cells (k + 1))
 
--- a test of each stage by its number
+-- a test of each stage, by its number
 stopped_bit : (plan : Plan) (s : State) (k : ℕ) → length s.cells ≡ plan.stages → has_bit (word_of (stops_there plan s) plan.stages) k
     ≡ stopping plan (k + 1) (cell_at s.cells (k + 1))
 unfolding stopping
@@ -108,7 +108,7 @@ bits plan s m k e same = rw e (record {
   stopping = stopped_bit plan s k same;
 })
 
--- a row of tests is free where none of them holds
+-- no bar of a row applies if none of its tests holds
 abbrev none_holds : List (Bool × Bar) → Bool
 none_holds [] = true
 none_holds (row ∷ rows) = not row.0 && none_holds rows
@@ -235,7 +235,8 @@ send-free plan s m k e same =
     let b = bits plan s m k e same in
     rw (b.owing, b.flying) (sym (send_row (cell_at s.cells (k + 1))))
 
--- where a word says of each stage whether the row is free, it says where the move is allowed, as long as the processor goes on
+-- if a word says of each stage whether the row bars the move, it says where the move is allowed, as long as the
+-- processor goes on
 in_stages : (plan : Plan) (s : State) (kind : ℕ → Move) (k : ℕ) (on within free : Bool) → nat_lt k plan.stages ≡ within →
     not (is_some (row_bar plan s (kind (k + 1)))) ≡ free → goes_on s ≡ on → (within ≡ false → free ≡ false) →
     (on && free) ≡ (nat_lt k plan.stages && is_allowed plan s (kind (k + 1)))
@@ -248,7 +249,7 @@ in_stages plan s kind k on within free e f g outside =
     tests true false free outside = outside refl
     tests false false free outside = refl
 
--- the bits of a word where the processor goes on
+-- the bits of a word, if the processor goes on
 bits_on : (on : Bool) (w k : ℕ) → has_bit (if on then w else 0) k ≡ (on && has_bit w k)
 bits_on true w k = refl
 bits_on false w k = no_bits k
@@ -293,7 +294,7 @@ pub send-stages : (plan : Plan) (s : State) (m : Masks) (w v : ℕ) → m ≡ ma
     ((k : ℕ) → has_bit w k ≡ send_bit m k) → v ≡ (if goes_on s then w else 0) → HasStages plan s Send v
 send-stages plan s m w v e same has is = stages_are plan s Send w v (λ k. has k ∙ send-free plan s m k e same) (λ k none. rw none refl) same is
 
--- and of the three that are kept
+-- and of the three whose marks are kept
 pub execute-stages : (plan : Plan) (s : State) (m : Masks) → m ≡ masks_of plan s → HasStages plan s Execute m.execute
 unfolding masks_of
 execute-stages plan s m e k = rw e (word-has (λ i. is_allowed plan s (Execute i)) plan.stages k)

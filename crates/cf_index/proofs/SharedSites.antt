@@ -1,4 +1,4 @@
--- Two moves share a place exactly where one of the words or the flags of both says so.
+-- Two moves have a place in common if and only if a word or a flag of both says so.
 use Rattle.std.proofs.Common.{◌≡◌, ◌∙◌, refl, sym, ap, subst, ℕ, zero, suc, ◌+◌, ◌-◌, ◌*◌, ◌/◌, ◌%◌, ◌<◌, ◌⊎◌, inl, inr, List, [], ◌∷◌, map, Bool, true, false, arith}
 use Rattle.std.specs.Prelude.{◌&&◌, ◌||◌, ◌↔◌, ◌==◌, IsTrue}
 use Rattle.std.specs.List.{AllByRecursion, list_any}
@@ -16,7 +16,7 @@ either : (a b : Bool) → (a || b) ≡ true → (a ≡ true) ⊎ (b ≡ true)
 either true b e = inl refl
 either false b e = inr e
 
--- one place by two names
+-- one place under two names
 pub same_site_is : (x y : Site) → same_site x y ≡ true → x ≡ y
 same_site_is (Stage i) (Stage j) e = let q : i ≡ j = grind (arith, nat_tests) in ap Stage q
 same_site_is (SidingCell k c) (SidingCell j d) e = let q : k ≡ j = grind (arith, nat_tests) in let r : c ≡ d = grind (arith, nat_tests) in cc
@@ -33,7 +33,7 @@ same_site_is Ended Ended e = refl
 same_site_is Failure Failure e = refl
 same_site_is _ _ e = absurd (cc)
 
--- what holds of each of these places holds of one that is among them
+-- what holds of each of these places holds of any one among them
 pub found : (P : Site → Type 0) (x : Site) (xs : List Site) → AllByRecursion P xs → among x xs ≡ true → P x
 found P x [] all e = absurd (cc)
 found P x (y ∷ ys) all e = by (either (same_site x y) (among x ys) e) (found P x ys all.1)
@@ -42,7 +42,7 @@ found P x (y ∷ ys) all e = by (either (same_site x y) (among x ys) e) (found P
     by (inl s) rest = subst P (sym (same_site_is x y s)) all.0
     by (inr r) rest = rest r
 
--- a place passes a test, and it is one of these
+-- if a place among these passes a test, one of these passes it
 any_at : (p : Site → Bool) (x : Site) (xs : List Site) → among x xs ≡ true → p x ≡ true → list_any p xs ≡ true
 any_at p x [] e h = absurd (cc)
 any_at p x (y ∷ ys) e h = by (either (same_site x y) (among x ys) e) (any_at p x ys)
@@ -91,7 +91,7 @@ pub shared_place : (plan : Plan) (a b : Move) → shares plan a b ≡ true → (
 unfolding shares uses_place
 shared_place plan a b e = one_of (uses_place plan b) (used plan a) e
 
--- no move uses other places
+-- places that no move uses
 abbrev pub is_other : Site → Bool
 is_other (Stage i) = false
 is_other (SidingCell k c) = false
@@ -140,7 +140,7 @@ pub used_there : (plan : Plan) (mv : Move) (x : Site) → HasSites plan mv → u
 unfolding uses_place
 used_there plan mv x there e = found (LayoutHasSite plan) x (used plan mv) there e
 
--- what the words of the two moves, and the flags, say
+-- what the words and the flags of the two moves say
 pub record AreWords (plan : Plan) (mv : Move) (stages cells : ℕ) : Type 0 where
   pub stages_are : (k : ℕ) → has_bit stages k ≡ uses_place plan mv (Stage (k + 1))
   pub cells_are : (j : ℕ) → has_bit cells j ≡ uses_place plan mv (SidingCell (j / 8) (j % 8))
@@ -152,7 +152,7 @@ Overlap w v = (k : ℕ) × (has_bit w k ≡ true) × (has_bit v k ≡ true)
 abbrev pub both_use : Plan → Move → Move → Site → Bool
 both_use plan a b x = uses_place plan a x && uses_place plan b x
 
--- the tests, one after the other
+-- the tests, one after another
 abbrev pub tests : Bool → Bool → Bool → Bool → Bool → Bool → Bool
 tests s c l f m d = ((((s || c) || l) || f) || m) || d
 
@@ -194,7 +194,7 @@ place_test plan a b sa sb ca cb s c acc wa wb hs hc Code o there ea eb = some_te
     (both_use plan a b Memory) (both_use plan a b Code) (inr (inr (inr (inr (inr (two_true _ _ ea eb))))))
 place_test plan a b sa sb ca cb s c acc wa wb hs hc _ o there ea eb = absurd (cc)
 
--- a test that holds names a place that both use
+-- a test that holds gives a place that both use
 test_place : (plan : Plan) (a b : Move) (sa sb ca cb : ℕ) (s c l f m d : Bool) → AreWords plan a sa ca → AreWords plan b sb cb →
     (s ≡ true → Overlap sa sb) → (c ≡ true → Overlap ca cb) → l ≡ both_use plan a b Lane → f ≡ both_use plan a b Fetching → m ≡ both_use plan a b Memory →
     d ≡ both_use plan a b Code →
@@ -213,7 +213,7 @@ test_place plan a b sa sb ca cb false false false false false true wa wb hs hc e
     let h = both_true _ _ (sym ed) in shared_at plan a b Code h.0 h.1
 test_place plan a b sa sb ca cb false false false false false false wa wb hs hc el ef em ed e = absurd (cc)
 
--- so the tests say whether the two share a place
+-- so the tests say whether the two have a place in common
 pub shares_tested : (plan : Plan) (a b : Move) (sa sb ca cb : ℕ) (s c : Bool) → IsAccepted plan → HasSites plan a → AreWords plan a sa ca →
     AreWords plan b sb cb →
     (IsTrue s ↔ Overlap sa sb) → (IsTrue c ↔ Overlap ca cb) →

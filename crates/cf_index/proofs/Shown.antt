@@ -1,4 +1,4 @@
--- The moves of a word, shown one after another from the lowest number on.
+-- The moves of a word, shown one after another from the lowest number up.
 use Rattle.std.proofs.Common.{◌≡◌, refl, ℕ, ◌-◌, ◌^◌, ◌<◌, List, [], ◌∷◌, drop, map, fold, Some, arith}
 use Rattle.std.specs.Prelude.{slice_get}
 use Rattle.std.specs.Int.{trailing_zeros}
@@ -13,7 +13,7 @@ use Rattle.cf_index.specs.Places.{set_places}
 use Rattle.cf_index.specs.Spread.{numbered}
 use Rattle.cf_index.proofs.Places.{cleared, lowest, places_zero}
 
--- a list of which the first is known
+-- a list whose first element is known
 first_and_rest : (xs : List ℕ) (t : ℕ) → slice_get xs 0 ≡ Some t → xs ≡ t ∷ drop 1 xs
 first_and_rest [] t e = absurd (cc)
 first_and_rest (x ∷ xs) t e = let h : x ≡ t = cc in rw h refl
@@ -28,7 +28,7 @@ pub shown_next : {V : Type 0} (after : V → Move → V) (kind : Spread) (v : V)
     ≡ fold after v (map (numbered kind) (set_places 64 w))
 shown_next after kind v w some small = rw (places_next w some small) refl
 
--- of a word without a bit no move is shown
+-- for a word without a bit no move is shown
 pub shown_none : {V : Type 0} (after : V → Move → V) (kind : Spread) (v : V) → fold after v (map (numbered kind) (set_places 64 0)) ≡ v
 shown_none after kind v = rw (places_zero 64) refl
 
@@ -36,9 +36,9 @@ shown_none after kind v = rw (places_zero 64) refl
 pub lowest_within : (w : ℕ) → 0 < w → w < 2 ^ 64 → trailing_zeros w64 w < 64
 lowest_within w some small = (bit_at-trailing_zeros w64 w some small).0
 
--- a word without its lowest bit is less
+-- a word without its lowest bit is smaller
 pub less_word : (w : ℕ) → 0 < w → bit_and w (w - 1) < w
 less_word w some = let h = and_le_r w (w - 1) in omega (arith, h)
 
--- what is shown in parts is shown as a whole
+-- what is shown part by part is shown as a whole
 pub ruleset shown_parts = (fold-append)

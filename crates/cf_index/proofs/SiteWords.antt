@@ -38,7 +38,7 @@ stage_bit k i first = grind (arith, nat_tests)
 pub one_stage : (k i : ℕ) → 1 ≤ i → ((nat_eq k (i - 1) && true) || has_bit 0 k) ≡ nat_eq (k + 1) i
 one_stage k i first = one_bit k (i - 1) ∙ stage_bit k i first
 
--- and one stage more
+-- and with one more stage
 pub more_stage : (k i : ℕ) (b : Bool) → 1 ≤ i → ((nat_eq k (i - 1) && true) || b) ≡ (b || nat_eq (k + 1) i)
 more_stage k i b first = rw (stage_bit k i first) (tests (nat_eq (k + 1) i) b)
   where
@@ -53,7 +53,7 @@ cell_bit j k c small = grind (arith, nat_tests)
 pub one_cell : (j k c : ℕ) → c < 8 → ((nat_eq j (8 * k + c) && true) || has_bit 0 j) ≡ (nat_eq (j / 8) k && nat_eq (j % 8) c)
 one_cell j k c small = one_bit j (8 * k + c) ∙ cell_bit j k c small
 
--- and the next one
+-- and with the next cell
 pub next_cell : (j k c : ℕ) → c + 1 < 8 → ((nat_eq j (8 * k + c + 1) && true) || (nat_eq (j / 8) k && nat_eq (j % 8) c))
     ≡ (nat_eq (j / 8) k && (nat_eq (j % 8) c || nat_eq (j % 8) (c + 1)))
 next_cell j k c small =
@@ -63,7 +63,7 @@ next_cell j k c small =
     tests : (s a b : Bool) → (((s && b) && true) || (s && a)) ≡ (s && (a || b))
     tests s a b = grind arith
 
--- one more cell, of the siding after those that were visited
+-- one more cell, in the siding after those that were visited
 pub way_more : (j k c : ℕ) (set : Bool) (at : ℕ → Bool) → c < 8 → (at k ≡ (set && nat_eq (j % 8) c)) →
     ((nat_eq j (8 * k + c) && set) || (nat_lt (j / 8) k && at (j / 8))) ≡ (nat_lt (j / 8) (k + 1) && at (j / 8))
 way_more j k c set at small here = by (nat_eq (j / 8) k) refl
@@ -90,7 +90,7 @@ way_more j k c set at small here = by (nat_eq (j / 8) k) refl
 pub none_yet : (j : ℕ) (b : Bool) → has_bit 0 j ≡ (nat_lt (j / 8) 0 && b)
 none_yet j b = let e : nat_lt (j / 8) 0 ≡ false = grind (arith, nat_tests) in rw (e, no_bits j) refl
 
--- two words have a bit in common where the bits of both make a word other than 0
+-- two words have a bit in common if and only if their bitwise conjunction is not 0
 both_some : (w v : ℕ) → bit_and w v < 2 ^ 64 → 0 < bit_and w v → (k : ℕ) × (has_bit w k ≡ true) × (has_bit v k ≡ true)
 unfolding has_bit
 both_some w v small some =

@@ -1,4 +1,4 @@
--- Where the search starts over and no Issue is offered, the first allowed move is picked.
+-- If the search starts over and no Issue is offered, the first allowed move is picked.
 use Rattle.std.proofs.Common.{◌≡◌, ◌≢◌, ◌∙◌, sym, refl, ap, ℕ, zero, suc, ◌≤◌, List, [], ◌∷◌, ◌++◌, Bool, true, false, cond, Option, Some, None, arith}
 use Rattle.std.specs.Prelude.{filter, find, not, slice_get}
 use Rattle.std.proofs.lemmas.Option.{slice_get_within}
@@ -34,7 +34,7 @@ use Rattle.cf_index.proofs.Ranks.{all_others, found_rank}
 
 -- No Issue --
 
--- an instruction in the lowest stage bars each Issue, and so does fetch where it waits
+-- an instruction in the lowest stage bars each Issue, and so does fetch if it waits
 row_waiting : (plan : Plan) (s : State) (c : Cell) (f : Fetch) → s.fetch ≡ f → is_running f ≡ false → not (is_some (issue_bar plan s Next c)) ≡ false
 row_waiting plan s c (Running pc) is waits = absurd (cc)
 row_waiting plan s c Waiting is waits = rw is refl
@@ -71,7 +71,7 @@ taken_barred plan s taken = barred_by (is_some s.ending) s.failed _ (of (cell_at
     of None e = refl
     of (Some c) e = row_taken plan s c s.fetch refl e
 
--- then none is allowed by another guess, and none is kept
+-- then none is allowed by another guess either, and none is kept
 barred_guess : (plan : Plan) (s : State) (g : Guess) → is_allowed plan s (Issue Next) ≡ false → is_allowed plan s (Issue g) ≡ false
 barred_guess plan s g barred = allowed-issue plan s g ∙ rw barred refl
 
@@ -101,7 +101,7 @@ pub ruleset issuing_none = (none_held, none_waiting, none_taken)
 
 -- The first of the others --
 
--- what is allowed from Emit on is what is allowed but for each Issue
+-- what is allowed from Emit on is what is allowed, except for each Issue
 from_emit_on : (plan : Plan) (s : State) → plan.stages ≤ 32 → from_emit plan s ≡ allowed_others plan s
 unfolding from_emit from_climb
 from_emit_on plan s few = ap (λ (xs : List Move). filter (is_allowed plan s) (Emit ∷ []) ++ (xs ++ outward_on plan s)) (climb-on plan s few)
@@ -129,7 +129,7 @@ head_other (x ∷ xs) mv e = head_step (is_issue x) x mv (other_moves xs) refl (
 other_first : (plan : Plan) (s : State) (mv : Move) → slice_get (allowed_others plan s) 0 ≡ Some mv → is_issue mv ≡ false
 other_first plan s mv e = head_other (candidates plan s) mv (ap (λ (xs : List Move). slice_get xs 0) (others_are plan s) ∙ e)
 
--- where no Issue is offered, the others are
+-- if no Issue is offered, the others are offered
 offered_others : (rule : GuessRule) (held : Bool) (plan : Plan) (s : State) (mv : Move) → unheld_issues held rule plan s ≡ [] →
     slice_get (allowed_others plan s) 0 ≡ Some mv → withheld held (guided rule plan s) ≡ allowed_others plan s
 offered_others rule held plan s mv none at =
@@ -137,7 +137,7 @@ offered_others rule held plan s mv none at =
 
 -- The pick --
 
--- the first of the others is picked after an Issue, and after a move that none comes after
+-- the first of the others is picked after an Issue, and after a move that no other comes after
 first_picked : (rule : GuessRule) (held : Bool) (plan : Plan) (s : State) (last mv : Move) → Some mv ≡ slice_get (withheld held (guided rule plan s)) 0 →
     is_issue mv ≡ false → kind_place last ≢ slide_place → (kind_place last ≢ 0 →
     find (is_past (rank_of last)) (filter (is_allowed plan s) (all_passing plan) ++ outward_on plan s) ≡ None) →
@@ -151,7 +151,7 @@ first_picked rule held plan s last mv is other outside none = of (kind_place las
         let gone = sym (none (λ first. absurd (omega (arith, e, first)))) in
         wrapped rule plan s last held None (Some mv) (omega (arith, e)) (found_rank (rank_of last) last _ None refl (omega (arith, e)) outside gone) refl is
 
--- where the first of all is none, there is none
+-- if there is no first one, there is none at all
 none_of : {X : Type 0} (xs : List X) → slice_get xs 0 ≡ None → xs ≡ []
 none_of [] e = refl
 none_of (x ∷ xs) e = absurd (cc)
@@ -178,7 +178,7 @@ started rule held plan s last r few stands none outside gone = record {
   gone = λ found. none_others plan s (Some last) few found;
 }
 
--- so it is after any move but an Issue that no other comes after
+-- the same holds after any move but an Issue that no other comes after
 pub restarted : (rule : GuessRule) (held : Bool) (plan : Plan) (s : State) (last : Move) → plan.stages ≤ 32 →
     unheld_issues held rule plan s ≡ [] → 1 ≤ kind_place last → IsLast plan s (Some last) →
     IsPickedFrom rule held plan s (Some last) first_rank (from_emit plan s)
@@ -192,13 +192,13 @@ restarted rule held plan s last few none some over = record {
   gone = λ found. over;
 }
 
--- and an Issue is picked there, where one is offered
+-- an Issue is picked there, if one is offered
 pub issue_picked : (rule : GuessRule) (held : Bool) (plan : Plan) (s : State) (last mv : Move) (o : Option Move) → held ≡ false →
     o ≡ slice_get (kept_issues rule plan s) 0 → o ≡ Some mv → 1 ≤ kind_place last → IsLast plan s (Some last) → IsPicked rule held plan s (Some last) mv
 issue_picked rule held plan s last mv o free first is some over =
     sym (wrapped rule plan s last held None (Some mv) some (sym (last_is plan s last some over)) refl (first_issue rule plan s held mv o free first is))
 
--- each of those that issue is an Issue
+-- each of the Issues is an Issue
 AreIssues : List Move → Type 0
 AreIssues [] = Unit {0}
 AreIssues (x ∷ xs) = (kind_place x ≡ 0) × AreIssues xs
@@ -227,7 +227,7 @@ issue_kind rule plan s o mv first is =
     (issues_kept (is_allowed plan s) (Issue Next ∷ Issue Taken ∷ Issue Wait ∷ []) (refl, (refl, (refl, tt)))))
     (sym first ∙ is)
 
--- where none is offered, the search starts over without one
+-- if none is offered, the search starts over without one
 none_offered : (rule : GuessRule) (plan : Plan) (s : State) (held : Bool) (o : Option Move) → held ≡ false → o ≡ slice_get (kept_issues rule plan s) 0 →
     o ≡ None → unheld_issues held rule plan s ≡ []
 none_offered rule plan s held o free first is = rw free (none_of (kept_issues rule plan s) (sym first ∙ is))

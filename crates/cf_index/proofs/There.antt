@@ -23,7 +23,7 @@ use Rattle.cf_index.proofs.SiteWords.{siding_within}
 use Rattle.cf_core.specs.Processors.{IsProcessor}
 use Rattle.cf_index.specs.Alone.{HasSidings}
 
--- a stage that a row finds
+-- the stage that a row tests exists
 record IsFound (cell : Option Cell) (onward : Cell → Option Bar) : Type 0 where
   here : Cell
   is : cell ≡ Some here
@@ -40,7 +40,7 @@ cell_there cells (suc i) n c size e = (omega arith, omega (arith, slice_get_with
 at_stage : (s : State) (i n : ℕ) (onward : Cell → Option Bar) → length s.cells ≡ n → on (cell_at s.cells i) (Some NoSuchSite) onward ≡ None → (1 ≤ i) × (i ≤ n)
 at_stage s i n onward size e = let f = found_at (cell_at s.cells i) onward e in cell_there s.cells i n f.here size f.is
 
--- the cells at the ends of the sidings that pass a test
+-- the cells at the ends of the sidings that pass a test exist
 all_where : (plan : Plan) (f : ℕ → Site) (test : ℕ → Bool) (first n : ℕ) → ((k : ℕ) → k < first + n → LayoutHasSite plan (f k)) →
     AllByRecursion (LayoutHasSite plan) (map f (filter test (counted_from first n)))
 all_where plan f test first zero h = tt
@@ -139,6 +139,6 @@ pub has_sidings : (plan : Plan) (s : State) → IsProcessor plan s → HasSiding
 unfolding cells_of
 has_sidings plan s p k = same_cells s.sidings plan.sidings k p.sidings
 
--- a move that a processor can make uses what there is
+-- a move that a processor can make uses only what its layout has
 pub there_allowed : (plan : Plan) (s : State) (mv : Move) → IsProcessor plan s → bar plan s mv ≡ None → HasSites plan mv
 there_allowed plan s mv p free = there plan s mv p.accepted p.stages (has_sidings plan s p) free

@@ -14,13 +14,13 @@ use Rattle.cf_index.proofs.Counted.{map_choice}
 use Rattle.cf_index.proofs.UsedSites.{alone}
 use Rattle.cf_index.specs.Sites.{uses_place, ways_in, ways_out}
 
--- the cell of a siding is among those of a list that may begin with one more
+-- whether the cell of a siding is in a list that may begin with one more cell
 chosen : (a b k c : ℕ) (set : Bool) (xs : List Site) → among (SidingCell a b) (cond set (SidingCell k c ∷ xs) xs)
     ≡ (((nat_eq a k && nat_eq b c) && set) || among (SidingCell a b) xs)
 chosen a b k c true xs = grind arith
 chosen a b k c false xs = grind arith
 
--- the cell is one of those with the numbers f of the sidings from m on, n of them, that pass the test
+-- whether the cell is one of the cells f of the n sidings from m on that pass the test
 among_numbered : (test : ℕ → Bool) (f : ℕ → ℕ) (a b m n : ℕ) → among (SidingCell a b) (map (λ k. SidingCell k (f k)) (filter test (counted_from m n)))
     ≡ ((nat_le m a && nat_lt a (m + n)) && (test a && nat_eq b (f a)))
 among_numbered test f a b m zero = let e : (nat_le m a && nat_lt a (m + 0)) ≡ false = grind (arith, nat_tests) in rw e refl
@@ -93,7 +93,7 @@ cell_used plan Leave a b = refl
 cell_used plan Exit a b = refl
 cell_used plan Serve a b = refl
 
--- the moves that use none
+-- the moves that use no cell
 pub no_cell_used : (plan : Plan) (mv : Move) → ((i : ℕ) → mv ≡ Launch i → ⊥) → ((k c : ℕ) → mv ≡ Slide k c → ⊥) → (mv ≡ Access → ⊥) →
     ((i : ℕ) → mv ≡ Recover i → ⊥) → (j : ℕ) → has_bit 0 j ≡ uses_place plan mv (SidingCell (j / 8) (j % 8))
 no_cell_used plan mv launch slide access recover j = no_bits j ∙ sym (cell_used plan mv (j / 8) (j % 8) ∙ none mv launch slide access recover)

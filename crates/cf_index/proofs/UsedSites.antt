@@ -7,7 +7,7 @@ use Rattle.cf_bind.specs.declared.moves.Move.TheVariants.{Issue, Emit, Climb, Fa
 use Rattle.cf_semantics.specs.moves.Sites.{Site, Stage, SidingCell, Lane, Fetching, Memory, Code, among, same_site}
 use Rattle.cf_index.specs.Sites.{sidings_where, uses_place, way_in, way_out, ways_in, ways_out}
 
--- a place that is none of these
+-- a place that is not one of these
 pub none_among : (x : Site) (f : ℕ → Site) (ks : List ℕ) → ((k : ℕ) → same_site x (f k) ≡ false) → among x (map f ks) ≡ false
 none_among x f [] none = refl
 none_among x f (k ∷ ks) none = let h = none k in let r = none_among x f ks none in rw (h, r) refl

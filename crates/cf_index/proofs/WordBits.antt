@@ -9,7 +9,7 @@ use Rattle.std.proofs.lemmas.Nat.{one_shl, pow_pos}
 use Rattle.std.proofs.lemmas.Nat.Bits.{bit_at-lt, bit_at-suc, bit_at_above, bit_at_and, bit_at_cat_low, bit_at_lowest, bit_at_not, bit_at_ones, bit_at_ones_above}
 use Rattle.cf_layout.specs.Words.{has_bit}
 
--- the bits of both
+-- the bits that both words have
 and_bit : (a b : ℕ) → a < 2 → b < 2 → nat_eq (min a b) 1 ≡ (nat_eq a 1 && nat_eq b 1)
 and_bit a b h g = grind (arith, nat_tests)
 
@@ -17,7 +17,7 @@ pub of_both : (w v k : ℕ) → has_bit (bit_and w v) k ≡ (has_bit w k && has_
 unfolding has_bit
 of_both w v k = ap (λ (b : ℕ). nat_eq b 1) (bit_at_and w v k) ∙ and_bit (bit_at w k) (bit_at v k) (bit_at-lt w k) (bit_at-lt v k)
 
--- a bit beyond 32
+-- a bit from 32 on
 high_bit : (w k : ℕ) → w < 2 ^ 32 → 32 ≤ k → has_bit w k ≡ false
 unfolding has_bit
 high_bit w k small high = ap (λ (b : ℕ). nat_eq b 1) (bit_at_above w 32 k small high)
@@ -29,7 +29,7 @@ other_bit : (v k : ℕ) → v < 2 ^ 32 → k < 32 → has_bit (bit_not w32 v) k 
 unfolding has_bit
 other_bit v k small below = ap (λ (b : ℕ). nat_eq b 1) (bit_at_not w32 v k small below) ∙ not_bit (bit_at v k) (bit_at-lt v k)
 
--- the bits of one that the other does not have
+-- the bits of one word that the other does not have
 without_case : (w v k : ℕ) (low : Bool) → nat_lt k 32 ≡ low → w < 2 ^ 32 → v < 2 ^ 32 → has_bit (bit_and w (bit_not w32 v)) k
     ≡ (has_bit w k && not (has_bit v k))
 without_case w v k true e small less = let below : k < 32 = grind (arith, nat_tests) in of_both w (bit_not w32 v) k ∙ rw (other_bit v k less below) refl
@@ -40,12 +40,12 @@ without_case w v k false e small less =
 pub without_other : (w v k : ℕ) → w < 2 ^ 32 → v < 2 ^ 32 → has_bit (bit_and w (bit_not w32 v)) k ≡ (has_bit w k && not (has_bit v k))
 without_other w v k small less = without_case w v k (nat_lt k 32) refl small less
 
--- the bit of the next
+-- after a shift down each bit is that of the next one
 pub of_next : (w k : ℕ) → has_bit (w / 2) k ≡ has_bit w (k + 1)
 unfolding has_bit
 of_next w k = let z : k + 1 ≡ suc k = omega arith in rw z (ap (λ (b : ℕ). nat_eq b 1) (sym (bit_at-suc w k)))
 
--- the bit of the last
+-- after a shift up each bit is that of the one before
 low_part : (x k : ℕ) → k < 32 → bit_at (x % 2 ^ 32) k ≡ bit_at x k
 low_part x k below =
     let e : x / 2 ^ 32 * 2 ^ 32 + x % 2 ^ 32 ≡ x = omega arith in
@@ -86,11 +86,11 @@ low_small n small =
 
 pub ruleset of_lowest = (of_low, low_some, low_small)
 
--- no bit stands beyond 32
+-- no bit is set from 32 on
 pub no_high : (w k : ℕ) → w < 2 ^ 32 → nat_lt k 32 ≡ false → has_bit w k ≡ false
 no_high w k small e = high_bit w k small (grind (arith, nat_tests))
 
--- the tests of a climb, and of a fall, as they are made one after the other
+-- the tests of a climb and of a fall, in the order in which they are made
 pub climb_tests : (k n : ℕ) (p f o q a : Bool) → 1 ≤ n → (((((p && not f) && not o) && not q) && not a) && nat_lt k (n - 1))
     ≡ (p && (not f && (not o && (not q && (not a && nat_lt (k + 1) n)))))
 climb_tests k n p f o q a some =
@@ -115,7 +115,7 @@ fall_tests k p f b high = by_height (nat_lt k 32) refl
     by_height true e = let z : not (nat_lt k 1) ≡ nat_lt 0 k = grind (arith, nat_tests) in rw (e, z) (tests p f (nat_lt 0 k) b)
     by_height false e = rw (high e) (nothing p (not f) (nat_lt 0 k && not b) (high e))
 
--- no bit stands from 32 on
+-- for bits from 32 on the bound does not matter
 pub beyond_word : (w i k : ℕ) → w < 2 ^ 32 → (has_bit w k && not (nat_lt k (min i 32))) ≡ (has_bit w k && not (nat_lt k i))
 beyond_word w i k small = by (nat_lt k 32) refl
   where

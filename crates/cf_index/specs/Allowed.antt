@@ -24,7 +24,7 @@ use Rattle.cf_index.specs.Words.{goes_on}
 abbrev pub is_allowed : Plan → State → Move → Bool
 is_allowed plan s mv = not (is_some (bar plan s mv))
 
--- the word has bit i - 1 exactly where the move of this kind is allowed at stage i of the layout
+-- the word has bit i - 1 if and only if the move of this kind is allowed at stage i of the layout
 abbrev pub HasStages : Plan → State → (ℕ → Move) → ℕ → Type 0
 HasStages plan s kind w = (k : ℕ) → has_bit w k ≡ (nat_lt k plan.stages && is_allowed plan s (kind (k + 1)))
 
@@ -43,7 +43,7 @@ passing_of plan s = record {
   launch = word_allowed plan s Launch;
 }
 
--- what is allowed over the stages, from one kind of move on
+-- what is allowed over the stages, from a given kind of move on
 abbrev pub launch_on : Plan → State → List Move
 launch_on plan s = at_word Launch (passing_of plan s).launch
 
@@ -79,13 +79,13 @@ abbrev pub is_running : Fetch → Bool
 is_running (Running pc) = true
 is_running Waiting = false
 
--- whatever instruction fetch comes to can be issued with the guess Next: the processor goes on, fetch runs, no instruction
--- is in the lowest stage, and the lane has room for two requests, the most that an instruction makes
+-- any instruction that fetch comes to can be issued with the guess Next: the processor goes on, fetch runs, no
+-- instruction is in the lowest stage, and the lane has room for two requests, the most that an instruction makes
 abbrev pub issues_any : Plan → State → Bool
 issues_any plan s =
     goes_on s && (is_running s.fetch && (not (is_some (passenger_at s.cells 1)) && nat_lt (length s.lane + 1) plan.lane))
 
--- the allowed moves that issue
+-- the Issues that are allowed
 abbrev pub allowed_issues : Plan → State → List Move
 allowed_issues plan s = filter (is_allowed plan s) (Issue guess.Next ∷ Issue guess.Taken ∷ Issue guess.Wait ∷ [])
 
@@ -93,19 +93,19 @@ allowed_issues plan s = filter (is_allowed plan s) (Issue guess.Next ∷ Issue g
 abbrev pub may_issue : GuessRule → Plan → State → Guess → Bool
 may_issue r plan s g = is_allowed plan s (Issue g) && keeps_guess r plan s g
 
--- the allowed moves that issue and that a guess rule keeps
+-- the Issues that are allowed and that a guess rule keeps
 abbrev pub kept_issues : GuessRule → Plan → State → List Move
 kept_issues r plan s = filter (keeps_move r plan s) (allowed_issues plan s)
 
--- those that are offered where Issue is held back, and where it is not
+-- the Issues that are offered: none if Issue is held back
 abbrev pub unheld_issues : Bool → GuessRule → Plan → State → List Move
 unheld_issues held r plan s = if held then [] else kept_issues r plan s
 
--- the allowed moves but for each Issue
+-- the allowed moves except for each Issue
 abbrev pub allowed_others : Plan → State → List Move
 allowed_others plan s = filter (is_allowed plan s) (Emit ∷ []) ++ (filter (is_allowed plan s) (all_passing plan)
     ++ (filter (is_allowed plan s) (slides_from 0 plan.sidings) ++ filter (is_allowed plan s) (all_leaving plan)))
 
--- the moves with each Issue held back, or all of them
+-- the moves, with each Issue held back if `held` is set
 abbrev pub withheld : Bool → List Move → List Move
 withheld held moves = if held then held_back moves else moves

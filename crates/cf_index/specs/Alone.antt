@@ -1,4 +1,5 @@
--- Which moves cannot change places with others, whatever places they use; and states that have the cells of their layout.
+-- Which moves cannot be exchanged with others, whatever places they use; and states that have the cells of their
+-- layout.
 use Rattle.std.specs.Prelude.{◌≡◌, ℕ, length, Bool, true, false}
 use Rattle.cf_layout.specs.Layout.{Plan, cells_of}
 use Rattle.cf_bind.specs.declared.moves.Move.{Move}

@@ -1,4 +1,4 @@
--- Guess rules: which guess of a branch or a jump is offered, and the candidates that a rule leaves.
+-- Guess rules: which guess of a branch or a jump is offered, and which candidates a rule leaves.
 use Rattle.std.specs.Prelude.{ℤ, pos, negsuc, List, Bool, true, false, filter}
 use Rattle.rv_inst.specs.declared.instruction.Instr.{Instr}
 use Rattle.rv_inst.specs.declared.instruction.Instr.TheVariants.{Branch, Jal, Jalr}
@@ -16,7 +16,7 @@ use Rattle.cf_semantics.specs.moves.Bars.{running}
 use Rattle.cf_semantics.specs.moves.Candidates.{candidates}
 use Rattle.cf_semantics.specs.moves.Instructions.{Fetched, Got, Bad, fetched}
 
--- a branch is guessed taken where it goes back
+-- a branch is guessed taken if it goes back
 abbrev pub guess_back : ℤ → Guess
 guess_back (negsuc n) = Taken
 guess_back (pos n) = Next
@@ -34,16 +34,16 @@ guess_of rule.Wait (Jal rd imm) = Wait
 guess_of rule.Wait (Jalr rd rs1 imm) = Wait
 guess_of r i = Next
 
--- its guess for what was fetched, also where there is no instruction
+-- its guess for what was fetched, even if there is no instruction
 abbrev pub guess_for : GuessRule → Fetched → Guess
 guess_for r (Got i) = guess_of r i
 guess_for r (Bad end) = Next
 
--- its guess for what fetch runs at
+-- its guess for what is at the address of fetch
 unfoldable pub guess_at : GuessRule → Plan → State → Guess
 guess_at r plan s = on (running s.fetch) Next (λ pc. guess_for r (fetched (isa_of plan) s.mem pc))
 
--- the two are one guess, other than an address
+-- the two are the same guess, and not an address
 abbrev pub is_guess : Guess → Guess → Bool
 is_guess Next Next = true
 is_guess Taken Taken = true
@@ -55,7 +55,7 @@ abbrev pub keeps_guess : GuessRule → Plan → State → Guess → Bool
 keeps_guess rule.Any plan s g = true
 keeps_guess r plan s g = is_guess (guess_at r plan s) g
 
--- the rule keeps each move but an Issue by another guess than its own
+-- the rule keeps the move: it drops only Issues by another guess than its own
 abbrev pub keeps_move : GuessRule → Plan → State → Move → Bool
 keeps_move r plan s (Issue g) = keeps_guess r plan s g
 keeps_move r plan s mv = true

@@ -1,4 +1,4 @@
--- The moves that the words and the flags stand for, in the order of the candidates.
+-- The moves that the words and the flags list, in the order of the candidates.
 use Rattle.std.specs.Prelude.{ℕ, ◌+◌, ◌/◌, ◌%◌, Bool, true, false, List, [], ◌∷◌, ◌++◌, map}
 use Rattle.cf_bind.specs.declared.passenger.Guess.TheVariants as guess
 use Rattle.cf_bind.specs.declared.moves.Move.{Move}
@@ -8,16 +8,16 @@ use Rattle.cf_index.specs.declared.passing.Passing.{Passing}
 use Rattle.cf_index.specs.declared.leaving.Leaving.{Leaving}
 use Rattle.cf_index.specs.Places.{set_places}
 
--- a move, where its flag is set
+-- a move, if its flag is set
 abbrev pub flagged : Bool → Move → List Move
 flagged true mv = mv ∷ []
 flagged false mv = []
 
--- one kind of move at each stage of a word, which has bit i - 1 for stage i
+-- one kind of move, at each stage of a word with bit i - 1 for stage i
 unfoldable pub at_word : (ℕ → Move) → ℕ → List Move
 at_word kind w = map (λ k. kind (k + 1)) (set_places 64 w)
 
--- the move within the sidings of bit 8k + c: siding k, cell c
+-- the move within the sidings for bit 8k + c: siding k, cell c
 abbrev pub slide_at : ℕ → Move
 slide_at j = Slide (j / 8) (j % 8)
 

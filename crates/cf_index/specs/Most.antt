@@ -1,4 +1,5 @@
--- How many moves each part of the list of all moves has at most. A word has 64 bits, and so a kind of move 64 places.
+-- The maximum number of moves in each part of the list of all moves. A word has 64 bits, so a kind of move has 64
+-- places.
 use Rattle.std.specs.Prelude.{ℕ, ◌+◌, ◌*◌}
 
 -- a kind of move for which there is a word
@@ -13,7 +14,7 @@ most_entering = 4
 abbrev pub most_passing : ℕ
 most_passing = 6 * most_of_kind
 
--- Access, Leave, Exit and Serve, beside Recover
+-- Access, Leave, Exit and Serve, besides Recover
 abbrev pub most_leaving : ℕ
 most_leaving = most_of_kind + 4
 

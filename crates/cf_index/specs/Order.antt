@@ -11,11 +11,11 @@ use Rattle.cf_semantics.specs.state.Options.{on}
 abbrev pub slide_place : ℕ
 slide_place = 8
 
--- and that of Leave
+-- the place of Leave
 abbrev pub leave_place : ℕ
 leave_place = 11
 
--- the place of its kind among the kinds
+-- the place of a move's kind among the kinds
 abbrev pub kind_place : Move → ℕ
 kind_place (Issue g) = 0
 kind_place Emit = 1
@@ -70,10 +70,10 @@ abbrev pub is_after : Option Move → Move → Bool
 is_after None mv = true
 is_after (Some last) mv = stands_after last mv
 
--- how many of the moves come before the first after the last one
+-- how many of the moves come before the first one after the last move
 unfoldable pub passed_moves : Move → List Move → ℕ
 passed_moves last moves = prefix_len (λ mv. not (stands_after last mv)) moves
 
--- the place in the list of the first move after the last one, and that of the first of all where none comes after it
+-- the index of the first move after the last one, or that of the first of all if none comes after it
 unfoldable pub first_after : Option Move → List Move → ℕ
 first_after last moves = on (position (is_after last) moves) 0 (λ i. i)

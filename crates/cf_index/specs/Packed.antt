@@ -1,4 +1,4 @@
--- The candidates of a small processor in one word of 64 bits: the move that each bit stands for, in the order of all moves.
+-- The candidates of a small processor in one word of 64 bits: the move of each bit, in the order of all moves.
 use Rattle.std.specs.Prelude.{◌≡◌, ℕ, ◌+◌, ◌-◌, ◌/◌, ◌%◌, ◌<◌, ◌≤◌, List, [], map, filter, if◌then◌else◌, ◌==◌}
 use Rattle.cf_layout.specs.Layout.{Plan}
 use Rattle.cf_bind.specs.declared.passenger.Guess.TheVariants as guess

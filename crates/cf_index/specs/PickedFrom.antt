@@ -1,5 +1,5 @@
--- A sweep: what is allowed from one kind of move on, and that its first move is the next pick of a rule that goes round in the
--- order of all moves; where it has none, no move but an Issue comes after the last pick.
+-- A sweep lists what is allowed from one kind of move on. Its first move is the next pick of a rule that goes round in
+-- the order of all moves; if it has none, no move but an Issue comes after the last pick.
 use Rattle.std.specs.Prelude.{◌≡◌, ◌≢◌, List, [], ◌∷◌, ◌++◌, Bool, Option, Some, None, filter, find, slice_get}
 use Rattle.run_options.specs.declared.guess_rule.GuessRule.{GuessRule}
 use Rattle.cf_layout.specs.Layout.{Plan}
@@ -36,11 +36,11 @@ from_send plan s = send_on plan s ++ outward_on plan s
 unfoldable pub from_launch : Plan → State → List Move
 from_launch plan s = launch_on plan s ++ outward_on plan s
 
--- what is allowed but for each Issue
+-- what is allowed, except for each Issue
 unfoldable pub from_emit : Plan → State → List Move
 from_emit plan s = filter (is_allowed plan s) (Emit ∷ []) ++ from_climb plan s
 
--- what is allowed of the kinds after Slide, and of those after each of these
+-- what is allowed of the kinds after Slide, and of those after each of them
 unfoldable pub from_access : Plan → State → List Move
 from_access plan s = filter (is_allowed plan s) (all_leaving plan)
 
@@ -64,8 +64,8 @@ IsLast plan s last = find (is_after last) (allowed_others plan s) ≡ None
 abbrev pub IsPicked : GuessRule → (held : Bool) → Plan → State → (last : Option Move) → Move → Type 0
 IsPicked rule held plan s last mv = slice_get (withheld held (guided rule plan s)) (first_after last (withheld held (guided rule plan s))) ≡ Some mv
 
--- the first of these moves past the rank, which is not that of a Slide, is picked after the last pick; where there is none, no move
--- but an Issue comes after it
+-- the first of these moves past the rank, which is not that of a Slide, is picked after the last pick; if there is
+-- none, no move but an Issue comes after it
 pub record FindsPick (rule : GuessRule) (held : Bool) (plan : Plan) (s : State) (last : Option Move) (r : Rank) (moves : List Move) : Type 0 where
   pub outside : r.kind ≢ slide_place
   pub here : (mv : Move) → find (is_past r) moves ≡ Some mv → IsPicked rule held plan s last mv

@@ -18,7 +18,7 @@ sidings_where plan test = filter test (counted_from 0 (length plan.sidings))
 abbrev pub way_in : ℕ → Site
 way_in k = SidingCell k 0
 
--- the last cell of a siding, from which they are taken
+-- the last cell of a siding, from which operations are taken
 abbrev pub way_out : Plan → ℕ → Site
 way_out plan k = SidingCell k (cells_of plan k - 1)
 

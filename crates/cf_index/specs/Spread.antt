@@ -1,4 +1,4 @@
--- The moves that the numbers of a word stand for, by the kind of move that the word is of.
+-- The moves for the numbers of a word, by the kind of move that the word is of.
 use Rattle.std.specs.Prelude.{ℕ, ◌+◌}
 use Rattle.cf_bind.specs.declared.moves.Move.{Move}
 use Rattle.cf_bind.specs.declared.moves.Move.TheVariants as mv
@@ -6,7 +6,7 @@ use Rattle.cf_index.specs.declared.visiting.Spread.{Spread}
 use Rattle.cf_index.specs.declared.visiting.Spread.TheVariants.{Climb, Fall, Meet, Execute, Send, Launch, Slide, Recover}
 use Rattle.cf_index.specs.Listed.{slide_at}
 
--- bit i - 1 is that of stage i, and bit 8k + c that of siding k, cell c
+-- bit i - 1 is for stage i, and bit 8k + c for siding k, cell c
 abbrev pub numbered : Spread → ℕ → Move
 numbered Climb k = mv.Climb (k + 1)
 numbered Fall k = mv.Fall (k + 1)

@@ -1,4 +1,4 @@
--- What the words of a processor say of the moves at a stage, bit by bit: bit k stands for stage k + 1.
+-- What the words of a processor say of the moves at a stage, bit by bit: bit k is for stage k + 1.
 use Rattle.std.specs.Prelude.{ℕ, ◌+◌, ◌-◌, Bool, ◌&&◌, not, nat_lt}
 use Rattle.cf_layout.specs.Words.{has_bit}
 use Rattle.cf_semantics.specs.state.Options.{is_some}
@@ -9,17 +9,17 @@ use Rattle.cf_core.specs.declared.masks.Masks.{Masks}
 abbrev pub full_bit : Masks → ℕ → Bool
 full_bit m k = has_bit m.passengers k && (has_bit m.packets k && not (has_bit m.met k))
 
--- the passenger can climb, with n the number of stages: the stage is not full, the passenger owes nothing and does not
--- stop here, and the stage above is there and has no passenger
+-- the instruction can climb, with n the number of stages: the stage is not full, the instruction owes nothing and does
+-- not stop here, and the stage above exists and has no instruction
 abbrev pub climb_bit : Masks → ℕ → ℕ → Bool
 climb_bit m n k = has_bit m.passengers k && (not (full_bit m k) && (not (has_bit m.owes k)
     && (not (has_bit m.stops k) && (not (has_bit m.passengers (k + 1)) && nat_lt (k + 1) n))))
 
--- the packet can fall: the stage is not full, and the one below is there and has no packet
+-- the result can fall: the stage is not full, and the one below exists and has no result
 abbrev pub fall_bit : Masks → ℕ → Bool
 fall_bit m k = has_bit m.packets k && (not (full_bit m k) && (nat_lt 0 k && not (has_bit m.packets (k - 1))))
 
--- the passenger owes something that can be sent: the stage has no packet
+-- the instruction owes something that can be sent: the stage has no result
 abbrev pub send_bit : Masks → ℕ → Bool
 send_bit m k = has_bit m.owes k && not (has_bit m.packets k)
 

@@ -9,7 +9,7 @@ use crate::bits::{count, count_below};
 use crate::candidates::Candidates;
 use cf_bind::Move;
 
-/// The place, among the moves within the sidings, of the first that comes after the one from cell c of siding k.
+/// The index, among the moves within the sidings, of the first that comes after the one from cell c of siding k.
 #[inline(always)]
 #[tactic(auto, using(crate::proofs::PassedEnds::passed_slides))]
 pub(crate) fn passed_slides(slides: u64, k: u32, c: u32) -> usize
@@ -21,7 +21,7 @@ pub(crate) fn passed_slides(slides: u64, k: u32, c: u32) -> usize
 }
 
 impl Candidates {
-    /// The place of the first that comes after this move in the order of all moves.
+    /// The index of the first that comes after this move in the order of all moves.
     #[inline(always)]
     fn passed(&self, last: Move) -> usize
         ensures { result ≡ passed_moves last self.now }
@@ -46,8 +46,8 @@ impl Candidates {
         }
     }
 
-    /// The place of the first that comes after the last move in the order of all moves. It is 0 if none does, or if there is
-    /// no last move.
+    /// The index of the first that comes after the last move in the order of all moves. It is 0 if none does, or if
+    /// there is no last move.
     #[inline(always)]
     #[tactic(auto, unfolding(crate::specs::Order::first_after, crate::specs::Order::passed_moves))]
     pub fn first_after(&self, last: Option<Move>) -> usize

@@ -17,7 +17,7 @@ use cf_bind::Move;
 use cf_core::{Core, Masks};
 
 /// The stages where a Climb comes after the rank.
-// The word is made only where one can.
+// The word is made only if a Climb can be after the rank.
 #[inline(always)]
 pub(crate) fn climbs_after(core: &Core, masks: &Masks, last: Rank, on: bool) -> u32
     requires on { on ≡ runs_on core.now.state }
@@ -32,7 +32,7 @@ pub(crate) fn climbs_after(core: &Core, masks: &Masks, last: Rank, on: bool) -> 
 }
 
 /// The stages where a Fall comes after the rank.
-// The word is made only where one can.
+// The word is made only if a Fall can be after the rank.
 #[inline(always)]
 pub(crate) fn falls_after(core: &Core, masks: &Masks, last: Rank, on: bool) -> u32
     requires on { on ≡ runs_on core.now.state }
@@ -58,7 +58,7 @@ fn next_launch(core: &Core, masks: &Masks, last: Rank) -> Option<Move>
     }
 }
 
-/// The first Send after the rank, or else the first move of the kinds after Send.
+/// The first Send after the rank, or otherwise the first move of the kinds after Send.
 #[inline(always)]
 fn next_send(core: &Core, masks: &Masks, last: Rank) -> Option<Move>
     requires { masks.now ≡ masks_of core.now.plan core.now.state }
@@ -70,8 +70,8 @@ fn next_send(core: &Core, masks: &Masks, last: Rank) -> Option<Move>
     }
 }
 
-/// The first Execute after the rank, or else the first move of the kinds after Execute.
-// Few searches come here, so that the words that only these kinds need are read here.
+/// The first Execute after the rank, or otherwise the first move of the kinds after Execute.
+// Few searches come here, so the words that only these kinds need are read here.
 #[inline(always)]
 fn next_execute(core: &Core, last: Rank) -> Option<Move>
     ensures { result ≡ find (is_past last) (execute_on core.now.plan core.now.state) }
@@ -83,7 +83,7 @@ fn next_execute(core: &Core, last: Rank) -> Option<Move>
     }
 }
 
-/// The first Meet after the rank, or else the first move of the kinds after Meet.
+/// The first Meet after the rank, or otherwise the first move of the kinds after Meet.
 #[inline(always)]
 fn next_meet(core: &Core, masks: &Masks, last: Rank) -> Option<Move>
     requires { masks.now ≡ masks_of core.now.plan core.now.state }
@@ -95,7 +95,7 @@ fn next_meet(core: &Core, masks: &Masks, last: Rank) -> Option<Move>
     }
 }
 
-/// The first Fall after the rank, or else the first move of the kinds after Fall.
+/// The first Fall after the rank, or otherwise the first move of the kinds after Fall.
 #[inline(always)]
 fn next_fall(core: &Core, masks: &Masks, last: Rank) -> Option<Move>
     requires { masks.now ≡ masks_of core.now.plan core.now.state }
@@ -107,7 +107,7 @@ fn next_fall(core: &Core, masks: &Masks, last: Rank) -> Option<Move>
     }
 }
 
-/// The first Climb after the rank, or else the first move of the kinds after Climb.
+/// The first Climb after the rank, or otherwise the first move of the kinds after Climb.
 #[inline(always)]
 fn next_climb(core: &Core, masks: &Masks, last: Rank) -> Option<Move>
     requires { masks.now ≡ masks_of core.now.plan core.now.state }

@@ -63,7 +63,7 @@ pub(crate) fn nth(word: u64, i: usize) -> u32
     rest.trailing_zeros()
 }
 
-/// The word with the number k added, if it is to be set.
+/// The word, with the number k added if it is to be set.
 #[inline(always)]
 #[tactic(auto, using(crate::proofs::Setting::with_bit_64))]
 pub(crate) fn with_bit(word: u64, k: u32, set: bool) -> u64

@@ -11,9 +11,9 @@ use cf_bind::Move;
 use std::alloc::{AllocError, Global};
 use std::marker::Model;
 
-/// A list of moves in the order of all moves, each of which stands in it at most once: Issue by each guess other than
-/// an address, and Emit; Climb, Fall, Meet, Execute, Send and Launch, each by stage; Slide by siding and then cell; Access;
-/// Recover by stage; Leave, Exit and Serve. It takes no memory.
+/// A list of moves in the order of all moves, each at most once: Issue by each guess other than an address, and Emit;
+/// Climb, Fall, Meet, Execute, Send and Launch, each by stage; Slide, by siding and then cell; Access; Recover, by
+/// stage; Leave, Exit and Serve. It takes no memory.
 #[derive(Drop)]
 pub struct Candidates {
     pub(crate) entering: Entering,
@@ -81,7 +81,7 @@ impl Candidates {
         self.len() == 0
     }
 
-    /// The move at this place, counted from 0.
+    /// The move at this index, counted from 0.
     #[inline(always)]
     pub fn pick(&self, i: usize) -> Move
         requires { i < length self.now }

@@ -135,7 +135,7 @@ impl SweptKind for ExitKind {
 }
 
 impl Candidates {
-    /// The first Slide after the rank that is allowed.
+    /// The first allowed Slide after the rank.
     #[inline(always)]
     #[tactic(auto, using(crate::proofs::PickedFrom::slide_here, crate::proofs::PickedFrom::slide_gone))]
     pub fn next_slide(core: &Core, last: Rank) -> Option<Move>
@@ -147,8 +147,8 @@ impl Candidates {
         next_slide(core, last)
     }
 
-    /// Whether another Slide that is allowed comes after this one. Where none does, and it was the last pick, the next one is looked
-    /// for among the moves by which something leaves.
+    /// Whether another allowed Slide comes after this one. If none does, and this one was the last pick, the next pick
+    /// is searched for among the moves by which something leaves.
     #[inline(always)]
     pub fn slides_after(core: &Core, mv: Move) -> bool
         ensures { (rule : GuessRule) (held : Bool) → result ≡ false → IsPickedFrom rule held core.now.plan core.now.state (Some mv) first_rank (from_access core.now.plan core.now.state) }
@@ -162,7 +162,7 @@ impl Candidates {
         }
     }
 
-    /// Whether Serve is allowed. Where it is not, no move that comes after the rank is left.
+    /// Whether Serve is allowed. If it is not, no move that comes after the rank is left.
     #[inline(always)]
     #[tactic(auto, using(crate::proofs::PickedFrom::serve_off))]
     pub fn may_serve(core: &Core, last: Rank) -> bool

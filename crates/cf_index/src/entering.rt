@@ -28,7 +28,7 @@ impl Entering {
         self.next as usize + self.taken as usize + self.wait as usize + self.emit as usize
     }
 
-    /// The move at this place among them, counted from 0.
+    /// The move at this index among them, counted from 0.
     #[inline(always)]
     #[tactic(auto, unfolding(crate::specs::Listed::entering_moves))]
     pub(crate) fn get(&self, i: usize) -> Move
@@ -49,7 +49,7 @@ impl Entering {
         }
     }
 
-    /// Those that are not Issue.
+    /// Those that are not Issues.
     #[inline(always)]
     #[tactic(auto, unfolding(crate::specs::Listed::entering_moves))]
     pub(crate) fn others(&self) -> Entering
@@ -63,7 +63,7 @@ impl Entering {
         }
     }
 
-    /// The place of the first that comes after this move in the order of all moves.
+    /// The index of the first that comes after this move in the order of all moves.
     #[inline(always)]
     #[tactic(auto, unfolding(crate::specs::Listed::entering_moves, crate::specs::Order::passed_moves))]
     pub(crate) fn passed(&self, last: Move) -> usize

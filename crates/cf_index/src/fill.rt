@@ -1,4 +1,4 @@
-//! The candidates are computed from a processor.
+//! Computing the candidates from a processor.
 
 ghost use Rattle.std.specs.Prelude.{◌≡◌, ℕ, ◌+◌, ◌-◌, ◌*◌, ◌/◌, ◌%◌, ◌<◌, ◌≤◌, ◌&&◌, ◌||◌, filter, length, nat_eq, nat_lt};
 ghost use Rattle.cf_layout.specs.Layout.{cells_of};
@@ -31,7 +31,7 @@ fn cells(core: &Core, k: u32) -> u32
     core.layout().cells_of(k)
 }
 
-/// The word with the cells of one siding added from which Slide is allowed: bit 8k + c for siding k, cell c.
+/// The word with the cells of one more siding from which Slide is allowed: bit 8k + c for siding k, cell c.
 #[inline(always)]
 fn with_siding(core: &Core, k: u32, word: u64) -> u64
     requires { k < length core.now.plan.sidings }
@@ -56,7 +56,7 @@ pub(crate) fn slides(core: &Core) -> u64
     word
 }
 
-/// The candidates by which something enters, of each Issue those that the guess rule keeps.
+/// The candidates by which something enters; of the Issues, those that the guess rule keeps.
 #[inline(always)]
 #[tactic(auto, unfolding(crate::specs::Listed::entering_moves))]
 fn entering(core: &Core, rule: GuessRule) -> Entering

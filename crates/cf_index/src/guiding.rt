@@ -16,7 +16,7 @@ use cf_passengers::{fetched, isa_of};
 use run_options::GuessRule;
 use rv_inst::Instr;
 
-/// The guess of a branch with this offset, which is guessed taken where it goes back.
+/// The guess of a branch with this offset: taken if it goes back.
 #[inline(always)]
 fn guess_back(offset: i32) -> Guess
     ensures { result ≡ guess_back offset }
@@ -28,7 +28,7 @@ fn guess_back(offset: i32) -> Guess
     }
 }
 
-/// The guess for an instruction where every branch is guessed taken.
+/// The guess for an instruction if every branch is guessed taken.
 #[inline(always)]
 #[tactic(auto, unfolding(crate::specs::GuessRules::guess_of))]
 fn guess_taken(i: Instr) -> Guess
@@ -41,7 +41,7 @@ fn guess_taken(i: Instr) -> Guess
     }
 }
 
-/// The guess for an instruction where the branches that go back are guessed taken.
+/// The guess for an instruction if the branches that go back are guessed taken.
 #[inline(always)]
 #[tactic(auto, unfolding(crate::specs::GuessRules::guess_of))]
 fn guess_backward(i: Instr) -> Guess
@@ -53,7 +53,7 @@ fn guess_backward(i: Instr) -> Guess
     }
 }
 
-/// The guess for an instruction where fetch waits after each branch and jump.
+/// The guess for an instruction if fetch waits after each branch and jump.
 #[inline(always)]
 #[tactic(auto, unfolding(crate::specs::GuessRules::guess_of))]
 fn guess_waiting(i: Instr) -> Guess
@@ -79,7 +79,7 @@ fn guess_of(rule: GuessRule, i: Instr) -> Guess
     }
 }
 
-/// The guess of a rule for what fetch runs at.
+/// The guess of a rule for what is at the address of fetch.
 #[inline(never)]
 #[tactic(auto, unfolding(crate::specs::GuessRules::guess_at))]
 fn guess_at(core: &Core, rule: GuessRule) -> Guess
@@ -94,7 +94,7 @@ fn guess_at(core: &Core, rule: GuessRule) -> Guess
     }
 }
 
-/// Whether the two are one guess, other than an address.
+/// Whether the two are the same guess, and not an address.
 #[inline(always)]
 fn is_guess(a: Guess, b: Guess) -> bool
     ensures { result ≡ is_guess a b }
@@ -116,7 +116,7 @@ pub(crate) fn is_any(rule: GuessRule) -> bool
     matches!(rule, GuessRule::Any)
 }
 
-/// The same, where nothing is decoded for the rule that keeps every guess.
+/// The same; nothing is decoded for the rule that keeps every guess.
 #[inline(always)]
 #[tactic(auto, using(crate::proofs::Guided::any_at))]
 pub(crate) fn own_guess(core: &Core, rule: GuessRule) -> Guess
@@ -129,7 +129,7 @@ pub(crate) fn own_guess(core: &Core, rule: GuessRule) -> Guess
     }
 }
 
-/// Of the guesses that an instruction can be issued with, the one of a rule that is not `Any`.
+/// Of the guesses that an instruction can be issued with, the one of a rule other than `Any`.
 #[inline(always)]
 #[tactic(auto, using(crate::proofs::Guided::own_kept))]
 fn only(core: &Core, rule: GuessRule, issuable: Issuable) -> Issuable

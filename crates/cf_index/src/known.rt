@@ -1,4 +1,4 @@
-//! Moves that are known to be allowed by the words and flags of which candidates are made.
+//! Moves that are known to be allowed from the words and flags from which the candidates are made.
 
 ghost use Rattle.std.specs.Prelude.{◌≡◌, ◌-◌, ◌<◌, true, None};
 ghost use Rattle.cf_layout.specs.Words.{has_bit as is_bit_set};
@@ -19,8 +19,8 @@ fn has_stage(word: u32, i: u32) -> bool
 }
 
 /// Whether a move is known to be allowed, without the tests of its row in the table of moves. A move over the stages is
-/// known by the word of its kind, and one by which something enters or leaves by its flag; nothing is known of an Issue, a
-/// Slide and a Serve.
+/// known from the word of its kind, and a move by which something enters or leaves from its flag; nothing is known of
+/// an Issue, a Slide or a Serve.
 #[inline(always)]
 #[tactic(auto, using(crate::proofs::KnownMoves::knowing))]
 pub fn is_known_allowed(core: &Core, mv: Move) -> bool

@@ -33,7 +33,7 @@ impl Leaving {
             + self.serve as usize
     }
 
-    /// The move at this place among them, counted from 0.
+    /// The move at this index among them, counted from 0.
     #[inline(always)]
     #[tactic(auto, using(crate::proofs::Parts::lengths), unfolding(crate::specs::Listed::leaving_moves))]
     pub(crate) fn get(&self, i: usize) -> Move
@@ -61,7 +61,7 @@ impl Leaving {
         }
     }
 
-    /// The place of the first that comes after this move in the order of all moves.
+    /// The index of the first that comes after this move in the order of all moves.
     #[inline(always)]
     #[tactic(auto, using(crate::proofs::PassedEnds::leaving))]
     pub(crate) fn passed(&self, last: Move) -> usize

@@ -1,4 +1,4 @@
-//! The moves that are allowed, counted and picked by their place.
+//! The moves that are allowed: how many there are, and picking one by its index.
 #![tactic(auto)]
 
 mod after;

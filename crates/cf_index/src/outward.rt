@@ -1,5 +1,5 @@
-//! The first move within the sidings, or of those by which something leaves, that comes after another. A move is tested only
-//! when no move before it was found.
+//! The first move after another one, within the sidings or among those by which something leaves. A move is tested only
+//! if no move before it was found.
 
 ghost use Rattle.std.specs.Prelude.{◌≡◌, ◌≢◌, ◌∷◌, ◌++◌, [], IfSome, filter, find, slice_get};
 ghost use Rattle.cf_bind.specs.declared.moves.Move.TheVariants as mv;
@@ -29,7 +29,7 @@ fn next_serve(core: &Core, last: Rank) -> Option<Move>
     }
 }
 
-/// Exit, if it is allowed and comes after the rank, or else the first move of the kinds after Exit.
+/// Exit, if it is allowed and comes after the rank, or otherwise the first move of the kinds after Exit.
 #[inline(always)]
 fn next_exit(core: &Core, last: Rank) -> Option<Move>
     ensures { result ≡ find (is_past last) (filter (is_allowed core.now.plan core.now.state) (mv.Exit ∷ mv.Serve ∷ [])) }
@@ -41,7 +41,7 @@ fn next_exit(core: &Core, last: Rank) -> Option<Move>
     }
 }
 
-/// Leave, if it is allowed and comes after the rank, or else the first move of the kinds after Leave.
+/// Leave, if it is allowed and comes after the rank, or otherwise the first move of the kinds after Leave.
 #[inline(always)]
 fn next_leave(core: &Core, last: Rank) -> Option<Move>
     ensures { result ≡ find (is_past last) (filter (is_allowed core.now.plan core.now.state) (mv.Leave ∷ mv.Exit ∷ mv.Serve ∷ [])) }
@@ -53,7 +53,7 @@ fn next_leave(core: &Core, last: Rank) -> Option<Move>
     }
 }
 
-/// The first Recover after the rank, or else the first move of the kinds after Recover.
+/// The first Recover after the rank, or otherwise the first move of the kinds after Recover.
 #[inline(always)]
 fn next_recover(core: &Core, masks: &Masks, last: Rank) -> Option<Move>
     requires { masks.now ≡ masks_of core.now.plan core.now.state }
@@ -107,7 +107,7 @@ pub(crate) fn next_slide(core: &Core, last: Rank) -> Option<Move>
     }
 }
 
-/// The first move within the sidings, or else by which something leaves, after a move that is not within them.
+/// The first move within the sidings, or otherwise by which something leaves, after a move that is not within them.
 #[inline(always)]
 pub(crate) fn next_outward(core: &Core, last: Rank) -> Option<Move>
     ensures { last.kind ≢ slide_place → result ≡ find (is_past last) (filter (is_allowed core.now.plan core.now.state) (slides_from 0 core.now.plan.sidings) ++ filter (is_allowed core.now.plan core.now.state) (all_leaving core.now.plan)) }

@@ -24,7 +24,7 @@ use crate::stages::{goes_on, stages};
 use cf_core::{Core, Masks};
 use run_options::GuessRule;
 
-/// A flag, and behind it the bits of a word.
+/// A flag, followed by the bits of a word.
 #[inline(always)]
 pub(crate) fn flag_then(flag: bool, rest: u64) -> u64
     requires { rest < 2 ^ 63 }
@@ -33,7 +33,7 @@ pub(crate) fn flag_then(flag: bool, rest: u64) -> u64
     flag as u64 + 2 * rest
 }
 
-/// The bits of eight stages, and behind them the bits of a word.
+/// The bits of eight stages, followed by the bits of a word.
 #[inline(always)]
 fn eight_then(stages: u32, rest: u64) -> u64
     requires stages { stages < 256 }
@@ -43,7 +43,7 @@ fn eight_then(stages: u32, rest: u64) -> u64
     stages as u64 + 256 * rest
 }
 
-/// The bits of the moves within the stages, and behind them the bits of a word.
+/// The bits of the moves within the stages, followed by the bits of a word.
 #[inline(always)]
 #[tactic(auto, using(crate::proofs::PackedWords::passing_joined))]
 fn passing_then(passing: &Passing, rest: u64) -> u64

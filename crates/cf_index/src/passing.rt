@@ -8,7 +8,7 @@ ghost use Rattle.cf_index.specs.Order.{passed_moves};
 use crate::bits::{count, count_below, nth};
 use cf_bind::Move;
 
-/// For each kind of move from Climb to Launch the stages where it can be made: bit i - 1 for stage i.
+/// For each kind of move from Climb to Launch, the stages where it can be made: bit i - 1 for stage i.
 #[derive(Clone, Copy)]
 pub(crate) struct Passing {
     pub(crate) climb: u32,
@@ -35,7 +35,7 @@ impl Passing {
             + count(self.launch as u64)
     }
 
-    /// The move at this place among them, counted from 0.
+    /// The move at this index among them, counted from 0.
     #[inline(always)]
     #[tactic(auto, using(crate::proofs::Parts::lengths), unfolding(crate::specs::Listed::passing_moves))]
     pub(crate) fn get(&self, i: usize) -> Move
@@ -69,7 +69,7 @@ impl Passing {
         Move::Launch(nth(self.launch as u64, i - sends) + 1)
     }
 
-    /// The place of the first that comes after this move in the order of all moves.
+    /// The index of the first that comes after this move in the order of all moves.
     #[inline(always)]
     #[tactic(auto, using(crate::proofs::PassedStages::passing))]
     pub(crate) fn passed(&self, last: Move) -> usize

@@ -1,4 +1,4 @@
-//! Where an instruction can be issued whatever it is.
+//! Whether an instruction can be issued, whatever it is.
 
 ghost use Rattle.std.specs.Prelude.{◌≡◌, true, not};
 ghost use Rattle.cf_bind.specs.declared.moves.Move.TheVariants as mv;
@@ -30,8 +30,9 @@ pub(crate) fn is_lowest_free(core: &Core) -> bool
     lowest.passenger.is_none()
 }
 
-/// Whether an instruction can be issued with the guess Next whatever it is: the processor goes on, fetch runs, the lowest
-/// stage has no instruction, and the lane has room for two requests, the most of an instruction. Nothing is decoded.
+/// Whether an instruction can be issued with the guess Next, whatever it is: the processor goes on, fetch runs, the
+/// lowest stage has no instruction, and the lane has room for two requests, the most of an instruction. Nothing is
+/// decoded.
 #[inline(always)]
 #[tactic(auto, using(crate::proofs::AnyIssue::any_allowed))]
 pub(crate) fn issues_any(core: &Core) -> bool

@@ -1,4 +1,4 @@
-//! Where a move stands in the order of all moves.
+//! The position of a move in the order of all moves.
 
 ghost use Rattle.std.specs.Prelude.{◌≡◌, ℕ, ◌+◌, ◌<◌, ◌&&◌, nat_lt};
 ghost use Rattle.cf_layout.specs.Words.{has_bit};
@@ -8,7 +8,7 @@ ghost use Rattle.cf_index.specs.Ranks.{first_rank, rank_of};
 use crate::words::past;
 use cf_bind::{Guess, Move};
 
-// The places of the kinds in the order of all moves, by which a search compares them.
+// The places of the kinds in the order of all moves, by which a search compares the kinds.
 pub(crate) const ISSUE: u32 = 0;
 
 pub(crate) const EMIT: u32 = 1;
@@ -37,7 +37,8 @@ pub(crate) const EXIT: u32 = 12;
 
 pub(crate) const SERVE: u32 = 13;
 
-/// Where a move stands in the order of all moves: the place of its kind among the kinds, and its stage, or its siding.
+/// The position of a move in the order of all moves: the place of its kind among the kinds, and its stage or its
+/// siding.
 #[derive(Clone, Copy)]
 pub struct Rank {
     pub(crate) kind: u32,

@@ -42,8 +42,8 @@ fn first_other(core: &Core) -> Option<Move>
     }
 }
 
-/// The first candidate that the guess rule keeps, with Issue held back or not.
-// The search seldom begins anew, and is then a call, so that the search after a move is part of the loop of a run.
+/// The first candidate that the guess rule keeps, whether or not Issue is held back.
+// The search rarely starts over, and is then a call, so that the search after a move is part of the loop of a run.
 #[inline(never)]
 #[tactic(auto, using(crate::proofs::Firsts::firsts))]
 fn look_for_first(core: &Core, rule: GuessRule, held: bool) -> Option<Move>
@@ -58,8 +58,8 @@ fn look_for_first(core: &Core, rule: GuessRule, held: bool) -> Option<Move>
     }
 }
 
-/// The first candidate, as it is found by a call.
-// The answer of the call has a place in memory here, which is written only where the call is made.
+/// The first candidate, found by a call.
+// The result of the call has a place in memory here, which is written only if the call is made.
 #[inline(always)]
 fn first(core: &Core, rule: GuessRule, held: bool) -> Option<Move>
     ensures { IfSome result (λ next. Some next ≡ slice_get (withheld held (guided rule core.now.plan core.now.state)) 0) }
@@ -80,8 +80,9 @@ fn first_unissued(core: &Core, rule: GuessRule, held: bool) -> Option<Move>
 }
 
 impl Candidates {
-    /// Of the candidates that the guess rule keeps, the first after the move of this rank, or the first of all if none comes after
-    /// it, with Issue held back or not. There is no answer after Slide, nor where one Issue may follow another: there all candidates are needed.
+    /// Of the candidates that the guess rule keeps, the first after the move of this rank, or the first of all if none
+    /// comes after it, whether or not Issue is held back. There is no answer after a Slide, nor if one Issue may follow
+    /// another: then all candidates are needed.
     #[inline(always)]
     pub fn soon(core: &Core, last: Rank, rule: GuessRule, held: bool) -> Option<Move>
         ensures next { (mv : Step) → last ≡ rank_of mv → IfSome result (λ next. Some next ≡ slice_get (withheld held (guided rule core.now.plan core.now.state))

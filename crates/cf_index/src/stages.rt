@@ -16,8 +16,8 @@ pub(crate) fn goes_on(core: &Core) -> bool
     core.ending().is_none() && !core.failed()
 }
 
-/// The word where the processor goes on, and no stage where it does not.
-// Who knows that it goes on says so, and it is not asked again.
+/// The word if the processor goes on, and no stage otherwise.
+// A caller that knows that it goes on says so, and it is not tested again.
 #[inline(always)]
 fn where_on(core: &Core, on: bool, word: u32) -> u32
     requires { on ≡ goes_on core.now.state }

@@ -1,4 +1,4 @@
-//! Where the search after a move starts over, and no Issue is offered.
+//! Whether the search after a move starts over, with no Issue offered.
 
 ghost use Rattle.std.specs.Prelude.{◌≡◌, ◌≢◌, ◌≤◌, ◌++◌, [], IfSome, None, Some, filter, find, true};
 ghost use Rattle.run_options.specs.declared.guess_rule.GuessRule.{GuessRule as Rule};
@@ -17,8 +17,8 @@ use cf_bind::Move;
 use cf_core::Core;
 use run_options::GuessRule;
 
-/// Whether no Issue is offered because it is held back, because fetch waits, or because the lowest stage has an instruction.
-/// Nothing is decoded, so that another reason is not seen.
+/// Whether no Issue is offered because Issue is held back, because fetch waits, or because the lowest stage has an
+/// instruction. Nothing is decoded, so any other reason is not seen.
 #[inline(always)]
 #[tactic(auto, using(crate::proofs::StartsOver::issuing_none))]
 fn issues_none(core: &Core, held: bool) -> bool
@@ -33,8 +33,9 @@ fn issues_none(core: &Core, held: bool) -> bool
     !is_lowest_free(core)
 }
 
-/// Whether the move of this rank was an Issue, or is of one of the last kinds and no move but one that enters comes after it.
-// Of an earlier kind the search would be made again where a move comes after it.
+/// Whether the move of this rank was an Issue, or is of one of the last kinds and no move comes after it except one
+/// that enters.
+// For an earlier kind the search would be made again if a move comes after it.
 #[inline(always)]
 fn is_at_end(core: &Core, last: Rank) -> bool
     ensures outside { result ≡ true → last.kind ≢ slide_place }
@@ -48,8 +49,8 @@ fn is_at_end(core: &Core, last: Rank) -> bool
 }
 
 impl Candidates {
-    /// Whether it is known that no Issue is offered after the move of this rank, and that the move was an Issue, or none comes after
-    /// it: the search then finds the first of all allowed moves but Issue.
+    /// Whether it is known that no Issue is offered after the move of this rank, and that the move was an Issue or no
+    /// other comes after it: the search then finds the first of all allowed moves but Issue.
     #[inline(always)]
     pub fn starts_over(core: &Core, last: Rank, held: bool) -> bool
         ensures { (rule : Rule) (mv : Step) → last ≡ rank_of mv → result ≡ true →
@@ -59,8 +60,8 @@ impl Candidates {
         issues_none(core, held) && is_at_end(core, last)
     }
 
-    /// The Issue that is picked where no other move comes after the last pick, if one is offered. Where none is, the search starts
-    /// over with the first of all allowed moves but Issue.
+    /// The Issue that is picked, if one is offered, when no other move comes after the last pick. If none is, the
+    /// search starts over with the first of all allowed moves but Issue.
     #[inline(always)]
     pub fn next_issue(core: &Core, rule: GuessRule, held: bool) -> Option<Move>
         ensures issue { IfSome result (λ next. kind_place next ≡ 0) }

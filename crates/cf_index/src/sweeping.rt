@@ -1,4 +1,5 @@
-//! The kinds of moves that a sweep makes: Emit, those over the stages, one stage after another, and those by which something leaves.
+//! The kinds of moves that a sweep lists: Emit, those over the stages, one stage after another, and those by which
+//! something leaves.
 
 ghost use Rattle.std.specs.Prelude.{◌≡◌, ℕ, ◌≤◌, Bool, IfSome, List, None, Some, find, true};
 ghost use Rattle.run_options.specs.declared.guess_rule.GuessRule.{GuessRule};
@@ -18,7 +19,7 @@ use crate::stages::{executes, launches, meets, sends, stages};
 use cf_bind::Move;
 use cf_core::Core;
 
-/// A kind of move that a sweep makes: Emit, Climb, Fall, Meet, Execute, Send, Launch, Access, Recover, Leave or Exit.
+/// A kind of move that a sweep lists: Emit, Climb, Fall, Meet, Execute, Send, Launch, Access, Recover, Leave or Exit.
 pub trait SweptKind {
     /// The move of this kind at a stage. Emit, Access, Leave and Exit have no stage.
     ghost at_stage: { ℕ → Step };
@@ -29,8 +30,8 @@ pub trait SweptKind {
     /// What is allowed of the kinds after it.
     ghost beyond: { Plan → State → List Step };
 
-    /// The part in which the next pick is looked for after a move of this kind: from this kind on, if it has a move for each stage,
-    /// or of the kinds after it.
+    /// The part in which the next pick is searched for after a move of this kind: from this kind on if it has a move
+    /// for each stage, and otherwise the kinds after it.
     ghost onward: { Plan → State → List Step };
 
     /// The move at the stage.

@@ -1,4 +1,4 @@
-//! A visitor is shown the candidates one after another. Those of a kind are found by walking the bits of its word.
+//! Showing the candidates to a visitor, one after another. Those of a kind are found by walking the bits of its word.
 
 ghost use Rattle.std.specs.Prelude.{◌≡◌, ◌<◌, ◌≤◌, ◌∷◌, [], filter, fold, length, map, slice_get};
 ghost use Rattle.cf_bind.specs.declared.moves.Move.{Move as Step};
@@ -47,7 +47,7 @@ pub(crate) enum Spread {
 }
 
 impl Spread {
-    /// The move of a number in the word: k is for stage k + 1, and 8k + c for cell c of siding k.
+    /// The move of a number in the word: k is for stage k + 1, or 8k + c for cell c of siding k.
     #[inline(always)]
     fn numbered(self, number: u32) -> Move
         requires { number < 64 }
@@ -194,7 +194,8 @@ fn visit_leaving<V: Visitor>(core: &Core, masks: &Masks, visitor: &mut V)
 }
 
 impl Candidates {
-    /// Shows each allowed move of the processor but those that issue, in the order of all moves. No candidates are filled in.
+    /// Shows each allowed move of the processor except the Issues, in the order of all moves. No candidates are filled
+    /// in.
     #[inline(always)]
     #[tactic(auto, using(crate::proofs::Shown::shown_parts, crate::proofs::Others::few_parts))]
     pub fn visit_others<V: Visitor>(core: &Core, visitor: &mut V)
@@ -208,8 +209,8 @@ impl Candidates {
         visit_leaving(core, &masks, visitor);
     }
 
-    /// The first of the allowed moves that issue and that the guess rule keeps. Where whatever fetch comes to can be issued,
-    /// the rule's own guess can be made, and an instruction is decoded for that guess alone.
+    /// The first of the allowed Issues that the guess rule keeps. If an instruction can be issued, whatever it is, the
+    /// rule's own guess can be made, and an instruction is decoded for that guess alone.
     #[inline(always)]
     #[tactic(auto, using(crate::proofs::Others::issues, crate::proofs::Guided::own_first))]
     pub fn first_issue(core: &Core, rule: GuessRule) -> Option<Move>

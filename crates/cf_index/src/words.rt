@@ -42,7 +42,7 @@ fn below(word: u32) -> u32
     word << 1
 }
 
-/// This many of the lowest stages.
+/// The `count` lowest stages.
 #[inline(always)]
 #[tactic(auto, using(crate::proofs::WordBits::of_lowest))]
 fn lowest(count: u32) -> u32
@@ -52,7 +52,7 @@ fn lowest(count: u32) -> u32
     ((1_u64 << count) - 1) as u32
 }
 
-/// The stages where an instruction and a result stand that have not met.
+/// The stages with an instruction and a result that have not met.
 #[inline(always)]
 pub(crate) fn full(masks: &Masks) -> u32
     ensures { (k : ℕ) → has_bit result k ≡ full_bit masks.now k }
@@ -73,7 +73,7 @@ pub(crate) fn climbing(masks: &Masks, stages: u32) -> u32
     common(clear, lowest(stages - 1))
 }
 
-/// The stages where a result stands, and no instruction that it has not met.
+/// The stages with a result and without an instruction that it has not met.
 #[inline(always)]
 pub(crate) fn resting(masks: &Masks) -> u32
     ensures { (k : ℕ) → has_bit result k ≡ (has_bit masks.now.packets k && not (full_bit masks.now k)) }
@@ -99,7 +99,7 @@ pub(crate) fn sending(masks: &Masks) -> u32
 }
 
 /// The stages of the word above the one of this number.
-// Without a branch of its own, which the compiler would join with that of the search for each kind of move.
+// Without a branch of its own, since the compiler would join it with that of the search for each kind of move.
 #[inline(always)]
 #[tactic(auto, using(crate::proofs::WordBits::beyond_word))]
 pub(crate) fn past(word: u32, i: u32) -> u32

@@ -1,4 +1,4 @@
--- A number past the greatest u64 is in no list of such numbers.
+-- A number above the maximum of u64 is in no list of such numbers.
 use Rattle.std.proofs.Common.{◌≡◌, ℕ, ◌+◌, ◌<◌, ◌≤◌, ◌^◌, ◌==◌, List, All, false, sym, arith}
 use Rattle.std.proofs.lemmas.List.Folds.{list_any_none}
 use Rattle.std.specs.List.{list_any}

@@ -1,4 +1,4 @@
--- Texts that are written one after the other, as parts of a whole text that is owed.
+-- Texts that are written one after another, as parts of a whole text that is owed.
 use Rattle.std.proofs.Common.{◌≡◌, ℕ, ◌+◌, ◌≤◌, List, [], ◌++◌, length, take, Option, Some, None, refl, ap, sym, ◌∙◌, subst, append-nil, append_assoc, arith}
 use Rattle.std.specs.Prelude.{Result, Ok, Err, OnErr}
 use Rattle.std.proofs.lemmas.Result.{on_err_weaker}
@@ -11,7 +11,7 @@ pub writes-nothing : (told : Option (List ℕ)) → Writes told told []
 writes-nothing None = tt
 writes-nothing (Some told) = ap Some (sym (append-nil told))
 
--- one text and then another
+-- a text and then another
 pub writes-again : (a b c : Option (List ℕ)) (x y : List ℕ) → Writes a b x → Writes b c y → Writes a c (x ++ y)
 writes-again None b c x y h k = tt
 writes-again (Some told) b c x y h k =
@@ -24,7 +24,7 @@ front-first (Some told) b x y (n, short, k) =
     let within : n ≤ length x = omega (arith, short) in
     (n, omega (arith, length-append x y, short), k ∙ ap (λ (z : List ℕ). Some (told ++ z)) (sym (take-append-le n x y within)))
 
--- one text, and then a prefix of another
+-- a text, and then a prefix of another
 pub front-again : (a b c : Option (List ℕ)) (x y : List ℕ) → Writes a b x → WritesFront b c y → WritesFront a c (x ++ y)
 front-again None b c x y h front = tt
 front-again (Some told) b c x y h front =
@@ -32,7 +32,7 @@ front-again (Some told) b c x y h front =
     let both : c ≡ Some (told ++ (x ++ take n y)) = k ∙ ap Some (append_assoc told x (take n y)) in
     (length x + n, omega (arith, length-append x y, short), both ∙ ap (λ (z : List ℕ). Some (told ++ z)) (sym (take-append-add x y n)))
 
--- of a whole text this rest is still owed
+-- this rest of a whole text is still owed
 pub record Owes (before now : Option (List ℕ)) (rest whole : List ℕ) : Type 0 where
   pub done : List ℕ
   pub told : Writes before now done
@@ -61,12 +61,12 @@ pub owes-none : (a b : Option (List ℕ)) (rest whole : List ℕ) → Owes a b r
 owes-none a b rest whole o e =
     subst (λ (l : List ℕ). Writes a b l) (sym (append-nil o.done) ∙ ap (λ (l : List ℕ). o.done ++ l) (sym e) ∙ o.parts) o.told
 
--- one text, and then an answer that is a failure with a prefix of another
+-- a text, and then an answer that is a failure with a prefix of another
 pub err-again : {E : Type 0} (a b c : Option (List ℕ)) (x y : List ℕ) (r : Result (Unit {0}) E)
     → Writes a b x → OnErr r (WritesFront b c y) → OnErr r (WritesFront a c (x ++ y))
 err-again a b c x y r h k = on_err_weaker r (front-again a b c x y h) k
 
--- what holds, holds where an answer is a failure
+-- what holds, holds also if an answer is a failure
 on-any : {E : Type 0} (P : Type 0) (s : Result (Unit {0}) E) → P → OnErr s P
 on-any P (Ok u) h = tt
 on-any P (Err e) h = h

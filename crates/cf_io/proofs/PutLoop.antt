@@ -1,10 +1,10 @@
--- What the loop that puts all bytes keeps.
+-- What the loop that puts all bytes maintains.
 use Rattle.std.proofs.Common.{◌≡◌, ℕ, ◌+◌, ◌-◌, ◌≤◌, List, ◌++◌, take, drop, length, Option, Some, None, subst, ap, refl, ◌∙◌, append_assoc}
 use Rattle.std.proofs.Math.Seq.{take-add, take-length}
 use Rattle.std.proofs.lemmas.List.{length-drop}
 use Rattle.cf_io.specs.Puts.{Writes}
 
--- that many bytes from the prefix are written, and no fault was counted
+-- this many bytes from the start are written, and no fault was counted
 pub record HasPut (written after : Option (List ℕ)) (bytes : List ℕ) (done before now : ℕ) :
     Type 0 where
   pub within : done ≤ length bytes

@@ -1,4 +1,4 @@
--- What the loop that fills a slice keeps.
+-- What the loop that fills a slice maintains.
 use Rattle.std.proofs.Common.{◌≡◌, ℕ, ◌+◌, ◌-◌, ◌≤◌, List, [], ◌++◌, length, take, drop, Option, Some, None, refl, subst, ap, sym, ◌∙◌, arith}
 use Rattle.std.proofs.Math.Seq.{take-add, take-append-add, drop-append-add, take-length}
 use Rattle.std.proofs.Math.ListN.{drop_of_length-le}
@@ -7,7 +7,7 @@ use borrow.Rule.Slice.PartMut.{put_mid}
 use Rattle.std.specs.Prelude.{Result, Ok}
 use Rattle.cf_io.specs.Takes.{Takes, TakesSome, GivesFront, IsAtEnd, TakesMost}
 
--- that many bytes are taken, the slice has its length, and no fault was counted
+-- this many bytes are taken, the slice has its length, and no fault was counted
 pub record HasTaken (left after : Option (List ℕ)) (into new : List ℕ) (done before now : ℕ) :
     Type 0 where
   pub taken : TakesSome left after into new done
@@ -22,7 +22,7 @@ rest_written i slice piece within =
     drop_of_length-le (drop i slice) {i = length slice - i} (omega (arith, length-drop i slice)) in
     rw (nothing_after, append-nil) refl
 
--- it keeps the slice's length
+-- it preserves the slice's length
 pub length-put_mid : (i : ℕ) (slice piece : List ℕ) → i ≤ length slice →
     length piece ≡ length (take (length slice - i) (drop i slice)) →
     length (put_mid i (length slice - i) slice piece) ≡ length slice
@@ -87,7 +87,7 @@ takes_more {E = E} a b c into slice piece i n result same fits before takes ok =
     rw (rest_written i slice piece (omega (arith, before.count, same)))
     (takes-add a b c into slice piece i n same size before more.told count more.rest)
 
--- a take of nothing from a source at its end: all that it had left was taken before
+-- a take of no bytes from a source at its end: everything that it had left was taken before
 pub most_at_end : (a b : Option (List ℕ)) (slice : List ℕ) (room i n : ℕ) → i ≤ room → n ≡ 0 →
     GivesFront a b slice i → IsAtEnd b → TakesMost a room (i + n)
 most_at_end None b slice room i n within zero gives end = tt

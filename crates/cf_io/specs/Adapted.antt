@@ -8,7 +8,7 @@ abbrev pub answer_of_reader : {E : Type 0} → Result ℕ E → Result ℕ Faile
 answer_of_reader (Ok count) = Ok count
 answer_of_reader (Err error) = Err record {}
 
--- of a writer, to a piece that is not empty: the number of bytes that it accepted, where 0 is a failure
+-- of a writer, for a nonempty piece: the number of bytes that it accepted, where 0 is a failure
 abbrev pub answer_of_writer : {E : Type 0} → Result ℕ E → Result ℕ Failed
 answer_of_writer (Ok zero) = Err record {}
 answer_of_writer (Ok (suc more)) = Ok (suc more)

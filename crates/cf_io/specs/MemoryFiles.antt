@@ -7,8 +7,8 @@ use Rattle.cf_io.specs.Reads.{FilesSeen}
 use Rattle.cf_io.specs.declared.files.FilesErr.{FilesErr}
 use Rattle.cf_io.specs.declared.files.FilesErr.TheVariants as err
 
--- names with their bytes, the names that were read and those whose read failed, both in order, how many reads found no
--- memory, the calls so far, the count of faults
+-- names with their bytes, the names that were read and those whose read failed, both in order, how many reads found too
+-- little memory, the calls so far, the count of faults
 pub record MemoryFiles : Type 0 where
   pub files : List (List ℕ × List ℕ)
   pub read : List (List ℕ)
@@ -37,18 +37,18 @@ known_files files = record {
   unheld = files.unheld;
 }
 
--- whether a read of that name fails: by its number, or because there is no such file
+-- whether a read of this name fails: by its number, or because there is no such file
 unfoldable pub read_fails : MemoryFiles → List ℕ → Bool
 read_fails files name = fails_next files.calls || is_none (content_of files.files name)
 
--- after one more read, of that name
+-- after one more read, of this name
 abbrev pub after_read : MemoryFiles → List ℕ → MemoryFiles
 after_read files name = record files {
   calls = after_call files.calls;
   read = files.read ++ name ∷ [];
 }
 
--- after one more read, of that name, that failed
+-- after one more read, of this name, that failed
 abbrev pub after_failed : MemoryFiles → List ℕ → MemoryFiles
 after_failed files name = record files {
   calls = after_call files.calls;
@@ -57,14 +57,14 @@ after_failed files name = record files {
   faults = raised files.faults;
 }
 
--- after one more read that found no memory
+-- after one more read that found too little memory
 abbrev pub after_unheld : MemoryFiles → MemoryFiles
 after_unheld files = record files {
   calls = after_call files.calls;
   unheld = raised files.unheld;
 }
 
--- each read is counted, and exactly those that are to fail do, unless there is no memory
+-- each read is counted, and exactly those that are to fail do, unless there is not enough memory
 abbrev pub ReadsCounted : {T : Type 0} → MemoryFiles → MemoryFiles → List ℕ → Result T FilesErr →
     Type 0
 ReadsCounted files after name (Ok bytes) =

@@ -3,7 +3,7 @@ use Rattle.std.specs.Prelude.{ℕ, ◌==◌, ◌-◌, List, [], ◌++◌, Bool, 
 use Rattle.cf_io.specs.Causes.{raised}
 use Rattle.cf_io.specs.FailingCalls.{Calls, no_calls, fails_next, after_call}
 
--- the bytes that were written, how many it can hold, the calls so far, the count of faults
+-- the bytes that were written, the capacity, the calls so far, the count of faults
 pub record MemorySink : Type 0 where
   pub written : List ℕ
   pub capacity : ℕ
@@ -19,15 +19,15 @@ empty_sink capacity fails = record {
   faults = 0;
 }
 
--- how many bytes more it can hold
+-- how many more bytes it can hold
 abbrev pub room_of : MemorySink → ℕ
 room_of sink = sink.capacity - length sink.written
 
--- the lesser of the piece and the room
+-- the smaller of the piece and the room
 abbrev pub put_size : MemorySink → ℕ → ℕ
 put_size sink size = min size (room_of sink)
 
--- whether a put of that many bytes fails: by its number, or because the sink is full
+-- whether a put of this many bytes fails: by its number, or because the sink is full
 unfoldable pub put_fails : MemorySink → ℕ → Bool
 put_fails sink size = not (size == 0) && (fails_next sink.calls || room_of sink == 0)
 

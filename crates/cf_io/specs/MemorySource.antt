@@ -3,7 +3,7 @@ use Rattle.std.specs.Prelude.{ℕ, ◌==◌, List, Bool, if◌then◌else◌, �
 use Rattle.cf_io.specs.Causes.{raised}
 use Rattle.cf_io.specs.FailingCalls.{Calls, no_calls, fails_next, after_call}
 
--- the bytes that are left, how many a call gives at most, the calls so far, the count of faults
+-- the remaining bytes, how many a call gives at most, the calls so far, the count of faults
 pub record MemorySource : Type 0 where
   pub left : List ℕ
   pub piece : ℕ
@@ -19,15 +19,15 @@ source_at_start bytes piece fails = record {
   faults = 0;
 }
 
--- the least of the room, what is left, and the piece
+-- the minimum of the room, what is left, and the piece
 abbrev pub piece_size : MemorySource → ℕ → ℕ
 piece_size source room = min (min room (length source.left)) source.piece
 
--- whether a take into that much room fails
+-- whether a take into this much room fails
 unfoldable pub take_fails : MemorySource → ℕ → Bool
 take_fails source room = not (room == 0) && fails_next source.calls
 
--- after a take into that much room, which is counted if there is any
+-- after a take into this much room, which is counted if there is any
 unfoldable pub after_take : MemorySource → ℕ → MemorySource
 after_take source room =
     if room == 0 then source

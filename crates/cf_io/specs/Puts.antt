@@ -1,17 +1,17 @@
--- What a call that puts bytes does to what was written (a convention of this project).
+-- How a call that puts bytes affects what was written (a convention of this project).
 use Rattle.std.specs.Prelude.{◌≡◌, ◌≤◌, ◌<◌, ℕ, List, ◌++◌, take, length, Option, Some, None, Result, Ok, IfOk, OnErr}
 
--- where the sink exposes what was written: exactly these bytes were added after it
+-- if the sink exposes what was written: exactly these bytes were appended
 abbrev pub Writes : Option (List ℕ) → Option (List ℕ) → List ℕ → Type 0
 Writes None after bytes = Unit {0}
 Writes (Some written) after bytes = after ≡ Some (written ++ bytes)
 
--- where the sink exposes what was written: a prefix of these bytes, but not all of them, was added after it
+-- if the sink exposes what was written: a prefix of these bytes, but not all of them, was appended
 abbrev pub WritesFront : Option (List ℕ) → Option (List ℕ) → List ℕ → Type 0
 WritesFront None after bytes = Unit {0}
 WritesFront (Some written) after bytes = (n : ℕ) × (n < length bytes) × (after ≡ Some (written ++ take n bytes))
 
--- where the sink exposes what was written: nothing was added
+-- if the sink exposes what was written: nothing was appended
 abbrev pub WritesNothing : Option (List ℕ) → Option (List ℕ) → Type 0
 WritesNothing None after = Unit {0}
 WritesNothing (Some written) after = after ≡ Some written

@@ -1,13 +1,13 @@
--- What taking bytes does to the slice and to what is left (a convention of this project).
+-- How taking bytes affects the slice and what is left (a convention of this project).
 use Rattle.std.specs.Prelude.{◌≡◌, ◌≤◌, ◌<◌, ℕ, List, [], take, drop, length, min, Option, Some, None, Result, Ok, IfOk, OnErr}
 
--- where the source exposes what it has left: its first n bytes were taken, and the others are left
+-- if the source exposes what it has left: its first n bytes were taken, and the others are left
 abbrev pub GivesFront : Option (List ℕ) → Option (List ℕ) → List ℕ → ℕ → Type 0
 GivesFront None after new n = Unit {0}
 GivesFront (Some left) after new n =
     (n ≤ length left) × (take n new ≡ take n left) × (after ≡ Some (drop n left))
 
--- where the source exposes what it has left, it has nothing left
+-- if the source exposes what it has left, it has nothing left
 abbrev pub IsAtEnd : Option (List ℕ) → Type 0
 IsAtEnd None = Unit {0}
 IsAtEnd (Some left) = left ≡ []
@@ -28,7 +28,7 @@ pub record TakesSome (left after : Option (List ℕ)) (into new : List ℕ) (n :
   pub told : GivesFront left after new n
   pub rest : drop n new ≡ drop n into
 
--- where the source exposes what it has left: as many bytes as there is room for, or all
+-- if the source exposes what it has left: as many bytes as there is room for, or all
 abbrev pub TakesMost : Option (List ℕ) → ℕ → ℕ → Type 0
 TakesMost None room n = Unit {0}
 TakesMost (Some left) room n = n ≡ min room (length left)

@@ -10,8 +10,8 @@ use std::alloc::Global;
 use std::io::{self, Read};
 use std::{fs, rt};
 
-/// Real files, named by their paths. They do not expose their contents. A missing file, or a name that cannot be
-/// opened, is a fault; being out of memory is not.
+/// Real files, named by their paths. They do not expose their contents. A missing file, or one that cannot be opened,
+/// is a fault; running out of memory is not.
 #[derive(Drop)]
 pub struct DirFiles<'a, R: rt::Files + AllocGlobal> {
     rt: &'a R,
@@ -51,7 +51,7 @@ fn read_front<R: rt::Files + AllocGlobal>(
     front_of(fs::open(rt, name)?, alloc, most)
 }
 
-/// Why the read gave no bytes: it was out of memory exactly where the error is of that kind.
+/// Why the read gave no bytes: it ran out of memory if and only if the error is of that kind.
 fn reason(error: &io::Error) -> FilesErr
     ensures { result ≡ FilesErr.NoMemory ↔ error_kind error.now ≡ kind.OutOfMemory }
 {

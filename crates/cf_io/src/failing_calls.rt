@@ -30,8 +30,8 @@ impl FailingCalls {
         FailingCalls { fails, made: 0 }
     }
 
-    /// Counts one more call and returns whether it is to fail. A call past the greatest `u64` has a number that no list
-    /// holds, so it does not fail.
+    /// Counts one more call and returns whether it is to fail. A call above the maximum of `u64` has a number that no
+    /// list holds, so it does not fail.
     #[tactic(auto, unfolding(crate::specs::FailingCalls::fails_next))]
     pub(crate) fn next(&mut self) -> bool
         ensures answer { result ≡ fails_next self.old }

@@ -10,24 +10,24 @@ use std::alloc::Global;
 pub enum FilesErr {
     /// The read failed, and the files' count of faults rose.
     Failed,
-    /// There was no memory for the bytes. This is no fault of the files.
+    /// There was not enough memory for the bytes. This is no fault of the files.
     NoMemory,
 }
 
 /// Files that are read by name.
 pub trait Files {
-    /// Where the files expose them: the bytes of each name, the names that were read, those whose read failed, and how
-    /// many reads found no memory.
+    /// If the files expose them: the bytes of each name, the names that were read, those whose read failed, and how
+    /// many reads found too little memory.
     ghost told: { Self → Option FilesSeen };
 
-    /// How often the files have failed, up to the greatest `u64`.
+    /// How often the files have failed, up to the maximum of `u64`.
     ghost faults: { Self → ℕ };
 
-    /// The first `most` bytes of the file called `name`, or all of it where it has fewer.
+    /// The first `most` bytes of the file called `name`, or all of it if it has fewer.
     ///
-    /// `Failed` comes only where the files' count of faults rose in this call. Files that expose their contents record
-    /// each read: they append the name to their list of reads, and after `Failed` to the list of failed reads too;
-    /// after `NoMemory` they only count one more read that found no memory.
+    /// `Failed` is returned only if the files' count of faults rose in this call. Files that expose their contents
+    /// record each read: they append the name to their list of reads, and after `Failed` to the list of failed reads
+    /// too; after `NoMemory` they only count one more read that found too little memory.
     fn read(&mut self, alloc: Global, name: &str, most: u64) -> Result<Vec<u8>, FilesErr>
         ensures bytes { ReadsFile (told self.old) (told self.new) name.now most result }
         ensures most { IfOk result (λ bytes. vec_len bytes ≤ most) }

@@ -1,4 +1,4 @@
-//! The outside of the simulator: sources of bytes, sinks and files, each counting its faults.
+//! The simulator's outside world: sources of bytes, sinks and files, each counting its faults.
 #![tactic(auto)]
 
 mod directory;

@@ -12,8 +12,8 @@ use crate::files::{Files, FilesErr};
 use std::alloc::Global;
 use std::marker::Model;
 
-/// Files in memory; of several with one name the first counts. The reads whose numbers are listed fail, and so do those
-/// of a missing name.
+/// Files in memory; of several with the same name the first counts. The reads whose numbers are listed fail, and so do
+/// those of a missing name.
 #[derive(Drop)]
 pub struct MemFiles {
     files: Vec<(String, Vec<u8>)>,
@@ -58,7 +58,7 @@ impl MemFiles {
     }
 }
 
-/// The bytes of the first file of that name.
+/// The bytes of the first file with this name.
 fn find_content<'a>(files: &'a [(String, Vec<u8>)], name: &str) -> Option<&'a [u8]>
     ensures none { IfNone result (content_of (map entry_of files.now) name.now ≡ None) }
     ensures found { IfSome result (λ bytes.
@@ -84,7 +84,7 @@ fn front_of(alloc: Global, bytes: &[u8], most: u64) -> Result<Vec<u8>, FilesErr>
     }
 }
 
-/// Two copies of the name, one for each list, once both lists have room for it.
+/// Two copies of the name, one for each list, after both lists have room for it.
 fn names_for(
     alloc: Global,
     name: &str,
@@ -119,7 +119,7 @@ fn append(names: &mut Vec<String>, name: String)
 }
 
 impl MemFiles {
-    /// Counts one more read that found no memory, and returns `NoMemory`.
+    /// Counts one more read that found too little memory, and returns `NoMemory`.
     fn refuse_memory(&mut self) -> FilesErr
         ensures answer { result ≡ FilesErr.NoMemory }
         ensures state { self.new ≡ record self.old { unheld = raised self.old.unheld } }

@@ -37,7 +37,7 @@ impl Model for MemSource {
 }
 
 impl MemSource {
-    /// A source of `bytes`. Each call gives the least of `piece`, the slice's length and what is left. `fails` lists
+    /// A source of `bytes`. Each call gives the minimum of `piece`, the slice's length and what is left. `fails` lists
     /// the numbers of the takes that fail, counted from 1; takes into an empty slice are not counted.
     pub fn new(bytes: Vec<u8>, piece: usize, fails: Vec<u64>) -> MemSource
         requires { 0 < piece }

@@ -7,7 +7,7 @@ ghost use Rattle.cf_io.specs.Puts.{Puts};
 use crate::failed::Failed;
 use crate::sink::Sink;
 
-/// A sink that accepts every piece whole, keeps nothing and never fails.
+/// A sink that accepts every piece as a whole, keeps nothing and never fails.
 #[derive(Clone, Copy)]
 pub struct Nowhere;
 

@@ -8,17 +8,17 @@ use crate::failed::Failed;
 
 /// Something that bytes are taken from, in order, until it is at its end.
 pub trait Source {
-    /// The bytes that are left, where the source exposes them.
+    /// The bytes that are left, if the source exposes them.
     ghost left: { Self → Option (List ℕ) };
 
-    /// How often the source has failed, up to the greatest `u64`.
+    /// How often the source has failed, up to the maximum of `u64`.
     ghost faults: { Self → ℕ };
 
     /// Puts bytes at the start of `into` and returns how many, at most its length. The rest of `into` is unchanged. For
-    /// an empty slice the answer is 0; for any other, 0 means the end of the input. Where the source exposes what it
-    /// has left, the bytes are the first of these, and the rest is left.
+    /// an empty slice the answer is 0; for any other, 0 means the end of the input. If the source exposes what it has
+    /// left, the bytes are the first of these, and the rest is left.
     ///
-    /// `Failed` comes only where the source's count of faults rose in this call. Then `into` and what the source has
+    /// `Failed` is returned only if the source's count of faults rose in this call. Then `into` and what the source has
     /// left are unchanged.
     fn take(&mut self, into: &mut [u8]) -> Result<usize, Failed>
         ensures bytes { Takes (left self.old) (left self.new) into.old into.new result }

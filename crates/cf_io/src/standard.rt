@@ -23,8 +23,8 @@ fn taken(answer: io::Result<usize>) -> Result<usize, Failed>
     }
 }
 
-/// A writer's answer, to a piece that is not empty, as a sink's: the number of bytes that it accepted, if any.
-/// Accepting none is a failure, and so is each error.
+/// A writer's answer, for a nonempty piece, as a sink's: the number of bytes that it accepted, if any. Accepting none
+/// is a failure, and so is each error.
 fn written(answer: io::Result<usize>) -> Result<usize, Failed>
     ensures { result ≡ answer_of_writer answer }
 {
@@ -56,8 +56,8 @@ impl<R: Read + Drop> Source for StdSource<R> {
 
     ghost faults = { λ s. s.faults };
 
-    // A reader promises nothing of the slice beyond the bytes that it gave, nor after an error. So it reads into a
-    // buffer of our own.
+    // A reader promises nothing about the slice beyond the bytes that it gave, nor after an error. So it reads into a
+    // separate buffer.
     fn take(&mut self, into: &mut [u8]) -> Result<usize, Failed>
         ensures bytes { Takes None None into.old into.new result }
         ensures cause { HasCause self.old.faults self.new.faults result }

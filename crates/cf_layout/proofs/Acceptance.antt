@@ -31,7 +31,7 @@ needed_by parts all Free n = cc
 needed_by parts all Mul n = cc
 needed_by parts all Div n = cc
 
--- a number that the test does not find above another is not above it
+-- a number is not above another if the test does not find it above
 not_above : (a b : ℕ) → nat_lt a b ≡ false → b ≤ a
 not_above a b e = grind (arith, nat_tests)
 
@@ -39,19 +39,19 @@ not_above a b e = grind (arith, nat_tests)
 needed_asked : (parts : Parts) → find (λ c. not (is_asked parts c)) needed_classes ≡ None → (c : Class) → is_needed c ≡ true → is_asked parts c ≡ true
 needed_asked parts e c n = needed_by parts (none_found (is_asked parts) needed_classes e) c n
 
--- of two classes both or neither
+-- of two classes both are requested, or neither is
 pair_asked : (m d : Bool) → (m || not d) ≡ true → (d || not m) ≡ true → m ≡ d
 pair_asked true true p q = refl
 pair_asked true false p q = cc
 pair_asked false true p q = cc
 pair_asked false false p q = refl
 
--- no stage is above
+-- no stage above the launch stage is found
 none_above : (c : Class) (launch : ℕ) (o : Option ℕ) → above c launch o ≡ None → o ≡ None
 none_above c launch None e = refl
 none_above c launch (Some stage) e = cc
 
--- no stage where the class turns control is above
+-- no stage where the class turns control is above the launch stage
 turns_low : (parts : Parts) (c : Class) → turn_refusal parts c ≡ None → All (λ stage. stage ≤ memory_launch_in parts.sidings)
     (turns_in (ascending (stages_listed parts.units c)) (siding_for parts.sidings c))
 unfolding turn_refusal
@@ -81,7 +81,7 @@ missing_hold parts e =
     let f = next_passes _ _ e in
     (needed_asked parts (none_missing _ (first_passes _ _ e)), pair_asked _ _ (holds _ _ (first_passes _ _ f)) (holds _ _ (next_passes _ _ f)))
 
--- parts that pass all tests but the last are equipped
+-- parts that pass all tests but the last describe an equipped layout
 pub equipped : (parts : Parts) → loose_refusal parts ≡ None → AreEquipped parts
 unfolding loose_refusal
 equipped parts e =
@@ -103,21 +103,21 @@ equipped parts e =
       pair = there.1;
     }
 
--- and parts that are not refused are acceptable
+-- parts that are not refused are acceptable
 pub acceptable : (parts : Parts) → first_refusal parts ≡ None → IsAcceptable parts
 unfolding first_refusal
 acceptable parts e = record { equipped = equipped parts (first_passes _ _ e); control = control_low parts (next_passes _ _ e) }
 
--- and pass all tests but the last
+-- and they pass all tests but the last
 pub loosely_passed : (parts : Parts) → first_refusal parts ≡ None → loose_refusal parts ≡ None
 unfolding first_refusal
 loosely_passed parts e = first_passes _ _ e
 
--- so what parts that pass all tests but the last describe is equipped
+-- so parts that pass all tests but the last describe an equipped layout
 pub equips : (parts : Parts) → AreComputed parts → loose_refusal parts ≡ None → IsEquipped (plan_of parts)
 equips parts computed e = described_equipped parts computed (equipped parts e)
 
--- and what parts that are not refused describe is accepted
+-- and parts that are not refused describe an accepted one
 pub accepted : (parts : Parts) → AreComputed parts → first_refusal parts ≡ None → IsAccepted (plan_of parts)
 accepted parts computed e = described parts computed (acceptable parts e)
 
@@ -127,7 +127,7 @@ pub limits_kept : (parts : Parts) → loose_refusal parts ≡ None → (is_integ
 unfolding loose_refusal
 limits_kept parts e = limits_hold parts (first_passes _ _ e)
 
--- and so are those of their sidings
+-- and so are the numbers of their sidings
 pub small_kept : (parts : Parts) → loose_refusal parts ≡ None → All IsSmallSiding parts.sidings
 unfolding loose_refusal
 small_kept parts e =

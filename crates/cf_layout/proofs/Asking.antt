@@ -1,4 +1,4 @@
--- The parts that request a layout: where it is accepted they are acceptable, and describe it again.
+-- The parts that request a layout: if the layout is accepted, they are acceptable and describe it again.
 use Rattle.std.proofs.Common.{◌≡◌, ℕ, ℤ, pos, zero, suc, ◌+◌, ◌<◌, ◌≤◌, List, [], ◌∷◌, ◌++◌, All, Bool, true, false, cond, Option, Some, None, length, map, get_or, refl, ap, arith, ◌∙◌, sym, subst}
 use Rattle.std.specs.Prelude.{find, filter, nat_eq, nat_lt, option_map, ◌||◌, slice_get, unwrap_or, ◌≢◌, ◌<ℤ◌}
 use Rattle.std.specs.List.Sorted.{IsStrictlyIncreasing}
@@ -25,7 +25,7 @@ use Rattle.cf_layout.proofs.Control.{launch_given}
 use Rattle.cf_layout.proofs.Unrefused.{not_refused}
 use Rattle.cf_layout.proofs.Ordered.{Rises, rises_from, not_among, few_stages, ascending_same, in_order_same, has_place, places_same}
 
--- the entry of a class: no entry where it has no stage
+-- the entry of a class: no entry if it has no stage
 abbrev pub unit_for : Class → List ℕ → List (Class × List ℤ)
 unit_for c [] = []
 unit_for c (i ∷ is) = (c, map (λ n. pos n) (i ∷ is)) ∷ []
@@ -49,7 +49,7 @@ asking plan = record {
   sidings = map asking_siding plan.sidings;
 }
 
--- nothing either way
+-- both choices are empty
 nothing : (b : Bool) → cond b [] [] ≡ map (λ n. pos n) []
 nothing true = refl
 nothing false = refl
@@ -116,7 +116,7 @@ class_stages_few plan a c =
     let few = a.stages.1 in
     few_stages (stages_of plan c) w.0 (λ k d within. (w.1 k d within).0) (λ k d within. let i = (w.1 k d within).1 in omega arith)
 
--- nine lists, each taken at its index, are the nine
+-- nine lists, each taken at its index, are the list of the nine
 nine_places : (units : List (List ℕ)) → length units ≡ 9 → map (λ c. unwrap_or (slice_get units (place_of c)) []) computed_classes ≡ units
 nine_places (a ∷ b ∷ c ∷ d ∷ e ∷ f ∷ g ∷ h ∷ i ∷ []) nine = refl
 nine_places [] nine = absurd (omega arith)
@@ -130,7 +130,7 @@ nine_places (a ∷ b ∷ c ∷ d ∷ e ∷ f ∷ g ∷ []) nine = absurd (omega 
 nine_places (a ∷ b ∷ c ∷ d ∷ e ∷ f ∷ g ∷ h ∷ []) nine = absurd (omega arith)
 nine_places (a ∷ b ∷ c ∷ d ∷ e ∷ f ∷ g ∷ h ∷ i ∷ j ∷ rest) nine = absurd (omega arith)
 
--- what is the same at each computed class gives the same list
+-- two functions that agree on each computed class give the same list
 same_at : (f g : Class → List ℕ) → ((c : Class) → IsComputed c → f c ≡ g c) → map f computed_classes ≡ map g computed_classes
 same_at f g same = rw (
   same Add (omega arith),
@@ -149,7 +149,7 @@ unfolding units_plan stages_of
 units_back plan a = same_at (λ c. ascending (stages_listed (asking plan).units c)) (λ c. unwrap_or (slice_get plan.units (place_of c)) []) (stages_back plan a)
     ∙ nine_places plan.units a.classes
 
--- a requested siding comes back
+-- a requested siding is read as it was
 siding_back : (plan : Plan) (siding : SidingPlan) → accepted.IsSiding plan siding → siding_plan (asking_siding siding) ≡ siding
 unfolding siding_plan
 siding_back plan siding s = rw (in_order_same siding.classes s.ordered s.computed) refl
@@ -158,7 +158,7 @@ sidings_back : (plan : Plan) (sidings : List SidingPlan) → All (accepted.IsSid
 sidings_back plan [] all = refl
 sidings_back plan (s ∷ ss) all = rw (siding_back plan s (all 0 s (omega arith)), sidings_back plan ss (All-tail (accepted.IsSiding plan) s ss all)) refl
 
--- so the layout comes back
+-- so the layout is read as it was
 pub plan_back : (plan : Plan) → IsAccepted plan → plan_of (asking plan) ≡ plan
 unfolding plan_of
 plan_back plan a = rw (units_back plan a, sidings_back plan plan.sidings a.sidings) refl
@@ -239,7 +239,7 @@ sided_times plan (s ∷ ss) c all =
     ∙ kept_more (serves s c) s (filter (λ siding. serves siding c) ss) (times s.classes c) (times (sided_classes (map asking_siding ss)) c)
     (class_times plan s c (all 0 s (omega arith))) (sided_times plan ss c (All-tail (accepted.IsSiding plan) s ss all))
 
--- so it is in all parts as often as it has homes, where it is computed
+-- so all parts together name a class, if it is computed, as often as it has homes
 both_times : (plan : Plan) → IsAccepted plan → (c : Class) (n : ℕ) → times computed_classes c ≡ n → n ≤ 1 →
     times (asked_classes (asking plan)) c ≡ cond (nat_lt 0 n) (unit_homes (stages_of plan c)) 0 + length (filter (λ siding. serves siding c) plan.sidings)
 both_times plan a c n e one =
@@ -268,7 +268,7 @@ asked_once plan a c =
     rw (both_times plan a c (cond (nat_lt (place_of c) 9) 1 0) (computed_times c) (one_at_most (nat_lt (place_of c) 9)))
     (few_homes (nat_lt (place_of c) 9) (unit_homes (stages_of plan c)) (length (filter (λ siding. serves siding c) plan.sidings)) one)
 
--- a class is requested where it has a home
+-- a class is requested if and only if it has a home
 is_asked_homed : (plan : Plan) → IsAccepted plan → (c : Class) → IsComputed c → is_asked (asking plan) c ≡ nat_lt 0 (homes plan c)
 is_asked_homed plan a c small = is_asked_times (asking plan) c ∙ ap (λ (n : ℕ). nat_lt 0 n) (asked_homes plan a c small)
 
@@ -331,7 +331,7 @@ asked_siding (s ∷ ss) c = find_step (lists_class s.classes c) s (find (λ t. l
     (find (λ t. lists_class t.classes c) (map asking_siding ss))
     (asked_siding ss c)
 
--- what holds of all that pass holds of the first
+-- what holds of each element that passes holds of the first
 found_step : (P : SidingPlan → Type 0) (here : Bool) (s t : SidingPlan) (rest : Option SidingPlan) → (here ≡ true → P s) → (rest ≡ Some t → P t) →
     cond here (Some s) rest ≡ Some t → P t
 found_step P true s t rest first later e = subst P (same_Some s t e) (first refl)
@@ -358,7 +358,7 @@ unfolding unit_at
 units_low plan a c turns = λ k d within. a.control_units c (get_or (stages_of plan c) k d) turns
     (list_any_at (nat_eq (get_or (stages_of plan c) k d)) (stages_of plan c) k d within (same_number (get_or (stages_of plan c) k d)))
 
--- the one home of a class without units is a siding
+-- the only home of a class without units is a siding
 only_sided : (stages : List ℕ) (n : ℕ) → stages ≡ [] → unit_homes stages + n ≡ 1 → n ≡ 1
 only_sided [] n e one = omega arith
 only_sided (i ∷ is) n e one = cc
@@ -399,6 +399,6 @@ asking_equipped plan a = record {
 pub asking_acceptable : (plan : Plan) → IsAccepted plan → IsAcceptable (asking plan)
 asking_acceptable plan a = record { equipped = asking_equipped plan a; control = control_right plan a }
 
--- and so not refused
+-- so they are not refused
 pub asking_passes : (plan : Plan) → IsAccepted plan → first_refusal (asking plan) ≡ None
 asking_passes plan a = not_refused (asking plan) (asking_acceptable plan a)

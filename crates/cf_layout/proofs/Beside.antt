@@ -1,4 +1,4 @@
--- The tests before the last refuse as all tests do, but never for where control turns.
+-- The tests before the last refuse as all tests do, but never because of where control turns.
 use Rattle.std.proofs.Common.{◌≡◌, ℕ, ℤ, List, [], ◌∷◌, ◌++◌, length, min, Bool, true, false, Option, Some, None, find, refl, sym}
 use Rattle.std.specs.Prelude.{not, nat_le, nat_lt, int_lt, ◌||◌, ◌&&◌}
 use Rattle.std.specs.Option.{option_or}
@@ -12,7 +12,7 @@ use Rattle.cf_layout.specs.Layout.{same_class}
 use Rattle.cf_layout.specs.Asked.{natural, is_integer_within, lists_class, is_unit, is_sided, is_asked, stages_listed, ascending}
 use Rattle.cf_layout.specs.Refusal.{unless, outside, twice, missing_class, above, limits_refusal, unit_refusal, units_refusal, first_repeated, stages_refusal, classes_refusal, filled_refusal, siding_refusal, sidings_refusal, missing_refusal, needed_classes, turn_refusal, control_refusal, turns_in, siding_for, memory_launch_in, loose_refusal, first_refusal, beside_control}
 
--- a refusal, if there is one, is not for where control turns
+-- the refusal, if there is one, is not because of where control turns
 unfoldable IsBeside : Option LayoutErr → Type 0
 IsBeside o = beside_control o ≡ o
 
@@ -20,12 +20,12 @@ beside_none : IsBeside None
 unfolding IsBeside
 beside_none = refl
 
--- of two tests
+-- for two tests
 beside_first : (a b : Option LayoutErr) → IsBeside a → IsBeside b → IsBeside (option_or a b)
 beside_first None b p q = q
 beside_first (Some x) b p q = p
 
--- of one test
+-- for one test
 beside_unless : (b : Bool) (e : LayoutErr) → beside_control (Some e) ≡ Some e → IsBeside (unless b e)
 unfolding IsBeside
 beside_unless true e p = refl
@@ -46,7 +46,7 @@ unfolding IsBeside
 beside_missing None = refl
 beside_missing (Some c) = refl
 
--- of the limits
+-- the limits
 beside_limits : (parts : Parts) → IsBeside (limits_refusal parts)
 unfolding limits_refusal
 beside_limits parts =
@@ -54,7 +54,7 @@ beside_limits parts =
     (beside_first _ _ (beside_unless (is_integer_within 2 64 parts.lane) (LaneOutOfRange parts.lane) refl)
     (beside_unless (nat_le (length parts.sidings) 8) (TooManySidings (min (length parts.sidings) 4294967295)) refl))
 
--- of units
+-- units
 beside_unit : (n : ℕ) (before : List (Class × List ℤ)) (unit : Class × List ℤ) → IsBeside (unit_refusal n before unit)
 unfolding unit_refusal
 beside_unit n before unit =
@@ -67,7 +67,7 @@ beside_units : (n : ℕ) (before units : List (Class × List ℤ)) → IsBeside 
 beside_units n before [] = beside_none
 beside_units n before (unit ∷ units) = beside_first _ _ (beside_unit n before unit) (beside_units n (before ++ unit ∷ []) units)
 
--- of sidings
+-- sidings
 beside_stages : (n : ℕ) (siding : asked.Siding) (first : Class) → IsBeside (stages_refusal n siding first)
 unfolding stages_refusal
 beside_stages n siding first =
@@ -96,7 +96,7 @@ beside_sidings n units before [] = beside_none
 beside_sidings n units before (siding ∷ sidings) = beside_first _ _ (beside_siding n units before siding)
     (beside_sidings n units (before ++ siding ∷ []) sidings)
 
--- of what is missing
+-- what is missing
 beside_absent : (parts : Parts) → IsBeside (missing_refusal parts)
 unfolding missing_refusal
 beside_absent parts =
@@ -104,7 +104,7 @@ beside_absent parts =
     (beside_first _ _ (beside_unless (is_asked parts Mul || not (is_asked parts Div)) (MissingUnit Mul) refl)
     (beside_unless (is_asked parts Div || not (is_asked parts Mul)) (MissingUnit Div) refl))
 
--- so of all tests but the last
+-- so this holds of all tests but the last
 beside_loosely : (parts : Parts) → IsBeside (loose_refusal parts)
 unfolding loose_refusal
 beside_loosely parts =
@@ -112,7 +112,7 @@ beside_loosely parts =
     (beside_first _ _ (beside_units (natural parts.stages) [] parts.units)
     (beside_first _ _ (beside_sidings (natural parts.stages) parts.units [] parts.sidings) (beside_absent parts)))
 
--- while the last refuses for nothing else
+-- the last test refuses for no other reason
 only_above : (c : Class) (launch : ℕ) (o : Option ℕ) → beside_control (above c launch o) ≡ None
 only_above c launch None = refl
 only_above c launch (Some stage) = refl
@@ -130,13 +130,13 @@ only_control : (parts : Parts) → beside_control (control_refusal parts) ≡ No
 unfolding control_refusal
 only_control parts = only_first _ _ (only_turns parts Branch) (only_turns parts Jump)
 
--- by what the tests before the last answer
+-- the tests, by the result of those before the last
 beside_or : (parts : Parts) (o : Option LayoutErr) → IsBeside o → o ≡ beside_control (option_or o (control_refusal parts))
 unfolding IsBeside
 beside_or parts None p = sym (only_control parts)
 beside_or parts (Some e) p = sym p
 
--- the tests before the last refuse as all tests do, unless that is for where control turns
+-- the tests before the last refuse as all tests do, unless that is because of where control turns
 pub loosely : (parts : Parts) → loose_refusal parts ≡ beside_control (first_refusal parts)
 unfolding first_refusal
 loosely parts = beside_or parts (loose_refusal parts) (beside_loosely parts)

@@ -1,4 +1,4 @@
--- Where control turns in a layout that is described.
+-- Where control turns in a layout that parts describe.
 use Rattle.std.proofs.Common.{◌≡◌, ℕ, ℤ, pos, negsuc, zero, suc, ◌+◌, ◌<◌, ◌≤◌, List, [], ◌∷◌, All, Bool, true, false, cond, Option, Some, None, length, map, refl, ap, arith, ◌∙◌, sym}
 use Rattle.std.specs.Prelude.{find, filter, position, slice_get, nat_lt, nat_eq, ◌||◌, unwrap_or, option_map}
 use Rattle.std.specs.List.{list_any, position_or_len}
@@ -21,13 +21,13 @@ use Rattle.cf_layout.proofs.Counts.{any_kept, times_append, is_unit_times, is_si
 use Rattle.cf_layout.proofs.Passing.{lt_true}
 use Rattle.cf_layout.proofs.Described.{described_stages, serves_named, listed_none, ascending_none, served_times, siding_described, homes_times, one_where_asked, same_homes, needed_computed, control_needed, no_memory_unit, no_memory_stages, units_rise, units_within}
 
--- one step of the search among sidings that are described
+-- one step of the search in the sidings that the parts describe
 found_step : (here there : Bool) (siding : asked.Siding) (rest : Option asked.Siding) (found : Option SidingPlan) → here ≡ there →
     found ≡ option_map siding_plan rest → cond here (Some (siding_plan siding)) found ≡ option_map siding_plan (cond there (Some siding) rest)
 found_step here true siding rest found e later = rw e refl
 found_step here false siding rest found e later = rw e later
 
--- the siding that serves a class is found where the siding that names it is
+-- the siding that serves a class is the one whose requested siding names the class
 found_plan : (sidings : List asked.Siding) (c : Class) → IsComputed c → find (λ s. serves s c) (map siding_plan sidings)
     ≡ option_map siding_plan (find (λ s. lists_class s.classes c) sidings)
 found_plan [] c small = refl
@@ -41,30 +41,30 @@ after_end [] k after = refl
 after_end (siding ∷ sidings) zero after = absurd (omega arith)
 after_end (siding ∷ sidings) (suc k) after = after_end sidings k (omega arith)
 
--- the number of what is found, by whether there is one
+-- the element at the index that is found, by whether there is one
 position_by : (sidings : List SidingPlan) (siding : SidingPlan) (k : ℕ) (within : Bool) → nat_lt k (length sidings) ≡ within →
     slice_get sidings k ≡ Some siding → unwrap_or (slice_get sidings (unwrap_or (cond within (Some k) None) 0)) no_siding ≡ siding
 position_by sidings siding k true e at = rw at refl
 position_by sidings siding k false e at = let none = after_end sidings k (grind (arith, nat_tests)) in cc
 
--- where something is found its number gives it
+-- if an element is found, its index gives it
 position_gives : (test : SidingPlan → Bool) (sidings : List SidingPlan) (siding : SidingPlan) → find test sidings ≡ Some siding →
     unwrap_or (slice_get sidings (unwrap_or (position test sidings) 0)) no_siding ≡ siding
 position_gives test sidings siding e = position_by sidings siding (position_or_len test sidings) (nat_lt (position_or_len test sidings) (length sidings)) refl
     (sym (find_at test sidings) ∙ e)
 
--- something is found, by whether it is the first
+-- an element is found, by whether it is the first
 some_found_step : {X : Type 0} (here rest : Bool) (x : X) (found : Option X) → (here || rest) ≡ true → (rest ≡ true → (y : X) × (found ≡ Some y)) →
     (y : X) × (cond here (Some x) found ≡ Some y)
 some_found_step true rest x found e later = (x, refl)
 some_found_step false rest x found e later = later e
 
--- where some element passes something is found
+-- if some element passes, one is found
 some_found : {X : Type 0} (test : X → Bool) (xs : List X) → list_any test xs ≡ true → (y : X) × (find test xs ≡ Some y)
 some_found test [] e = cc
 some_found test (x ∷ xs) e = some_found_step (test x) (list_any test xs) x (find test xs) e (λ later. some_found test xs later)
 
--- where no element passes nothing is found
+-- if no element passes, none is found
 none_found_step : {X : Type 0} (here rest : Bool) (x : X) (found : Option X) → (here || rest) ≡ false → (rest ≡ false → found ≡ None) →
     cond here (Some x) found ≡ None
 none_found_step true rest x found e later = cc
@@ -74,7 +74,7 @@ none_found : {X : Type 0} (test : X → Bool) (xs : List X) → list_any test xs
 none_found test [] e = refl
 none_found test (x ∷ xs) e = none_found_step (test x) (list_any test xs) x (find test xs) e (λ later. none_found test xs later)
 
--- the siding that serves a class in the layout that is described, where one is requested for it
+-- the siding that serves a class in the layout that the parts describe, if one is requested for it
 serving : (sidings : List asked.Siding) (siding : asked.Siding) (c : Class) → IsComputed c → find (λ s. lists_class s.classes c) sidings ≡ Some siding →
     find (λ s. serves s c) (map siding_plan sidings) ≡ Some (siding_plan siding)
 serving sidings siding c small e = found_plan sidings c small ∙ ap (λ (o : Option asked.Siding). option_map siding_plan o) e
@@ -94,14 +94,14 @@ launch_given sidings plan same e =
     let p = position_gives (λ s. serves s Memory) (map siding_plan sidings) (siding_plan f.0) g in
     rw same (ap (λ (s : SidingPlan). s.launch) p ∙ sym (launch_of _ f.0 f.1))
 
--- the only element that passes is found, by whether it is the first
+-- the only element that passes is the one found, by whether it is the first
 only_step : {X : Type 0} (test : X → Bool) (here : Bool) (x y : X) (xs : List X) → test x ≡ here →
     length (cond here (x ∷ filter test xs) (filter test xs)) ≤ 1 → list_any test xs ≡ true → (length (filter test xs) ≤ 1 → find test xs ≡ Some y) →
     cond here (Some x) (find test xs) ≡ Some y
 only_step test true x y xs e one some later = let more : 0 < length (filter test xs) = lt_true 0 _ (sym (any_kept test xs) ∙ some) in absurd (omega arith)
 only_step test false x y xs e one some later = later one
 
--- the only element that passes is found
+-- the only element that passes is the one found
 only_found : {X : Type 0} (test : X → Bool) (xs : List X) → length (filter test xs) ≤ 1 → All (λ x. test x ≡ true → find test xs ≡ Some x) xs
 only_found test [] one = All-nil (λ x. test x ≡ true → find test [] ≡ Some x)
 only_found test (x ∷ xs) one = All-cons (λ y. test y ≡ true → find test (x ∷ xs) ≡ Some y) x xs (λ here. rw here refl)
@@ -114,7 +114,7 @@ unfolding siding_plan
 recover_low None siding stages launch e all = cc
 recover_low (Some s) siding stages launch e all = let same = same_Some _ _ e in rw same (all 0 0 (omega arith))
 
--- control turns low at each siding that serves the class
+-- control turns at or below the launch stage at each siding that serves the class
 sidings_low : (sidings : List asked.Siding) (c : Class) (stages : List ℕ) (launch : ℕ) → IsComputed c → times (sided_classes sidings) c ≤ 1 →
     All (λ stage. stage ≤ launch) (turns_in stages (siding_for sidings c)) → All (λ siding. serves siding c ≡ true →
     siding.recover ≤ launch) (map siding_plan sidings)
@@ -124,7 +124,7 @@ sidings_low sidings c stages launch small once all =
     λ k d within here. recover_low _ _ stages launch (sym (only_found (λ s. serves s c) (map siding_plan sidings) one k d within here)
     ∙ found_plan sidings c small) all
 
--- what holds of all numbers of a list holds of one that is in it, by whether it is the first
+-- what holds of all numbers of a list holds of each one in it, by whether it is the first
 any_all_step : (launch i j : ℕ) (here rest : Bool) → nat_eq i j ≡ here → (here || rest) ≡ true → j ≤ launch → (rest ≡ true → i ≤ launch) → i ≤ launch
 any_all_step launch i j true rest at e low later = grind (arith, nat_tests)
 any_all_step launch i j false rest at e low later = later e
@@ -138,7 +138,7 @@ any_all launch i (j ∷ js) all e = any_all_step launch i j (nat_eq i j) (list_a
 no_siding_beside : (units sidings : ℕ) → nat_lt 0 units ≡ true → units + sidings ≤ 1 → nat_lt 0 sidings ≡ false
 no_siding_beside units sidings e once = grind (arith, nat_tests)
 
--- control turns low at each unit, by whether there are units
+-- control turns at or below the launch stage at each unit, by whether there are units
 units_low : (parts : Parts) (c : Class) (launch i : ℕ) (some : Bool) → is_unit parts.units c ≡ some → times (asked_classes parts) c ≤ 1 →
     All (λ stage. stage ≤ launch) (turns_in (ascending (stages_listed parts.units c)) (siding_for parts.sidings c)) →
     list_any (nat_eq i) (ascending (stages_listed parts.units c)) ≡ true → i ≤ launch
@@ -152,7 +152,7 @@ units_low parts c launch i true e once all at =
     any_all launch i (ascending (stages_listed parts.units c)) low at
 units_low parts c launch i false e once all at = let n = listed_none parts.units c e in let f = rw (n, ascending_none) at at in cc
 
--- a class that is in no unit but is requested is in a siding
+-- a class that is requested, but in no unit, is in a siding
 sided_where : (u t : ℕ) → nat_lt 0 u ≡ false → nat_lt 0 (u + t) ≡ true → nat_lt 0 t ≡ true
 sided_where u t e f = grind (arith, nat_tests)
 
@@ -163,7 +163,7 @@ memory_sided parts none there =
     is_sided_times parts.sidings Memory ∙ sided_where (times (map (λ unit. unit.0) parts.units) Memory) (times (sided_classes parts.sidings) Memory)
     (sym (is_unit_times parts.units Memory) ∙ none) (ap (λ (n : ℕ). nat_lt 0 n) (sym t) ∙ (sym (is_asked_times parts Memory) ∙ there))
 
--- the sidings of the layout that is described
+-- the sidings of the layout that the parts describe
 sidings_described : (plan : Plan) (sidings : List asked.Siding) → All (λ siding. All IsComputed siding.classes) sidings → All (IsSiding plan.stages) sidings →
     All (accepted.IsSiding plan) (map siding_plan sidings)
 sidings_described plan sidings computed all = All-map (accepted.IsSiding plan) siding_plan sidings
@@ -179,7 +179,7 @@ nine_classes : (units : List (Class × List ℤ)) → length (units_plan units) 
 unfolding units_plan
 nine_classes units = refl
 
--- the sidings name a class at most once where all parts do
+-- the sidings name a class at most once if all parts do
 sided_once : (parts : Parts) (c : Class) → times (asked_classes parts) c ≤ 1 → times (sided_classes parts.sidings) c ≤ 1
 sided_once parts c once = omega (arith, times_append (map (λ unit. unit.0) parts.units) (sided_classes parts.sidings) c)
 

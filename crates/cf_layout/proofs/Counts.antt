@@ -35,40 +35,40 @@ class_back Div = refl
 pub same_place : (c d : Class) → place_of c ≡ place_of d → c ≡ d
 same_place c d e = sym (class_back c) ∙ ap class_at e ∙ class_back d
 
--- two classes that the test finds the same are the same
+-- two classes that the test says are the same are the same
 pub same_true : (c d : Class) → same_class c d ≡ true → c ≡ d
 same_true c d e = same_place c d (grind (arith, nat_tests))
 
--- a class is itself
+-- the test says of a class that it is itself
 pub same_self : (c : Class) → same_class c c ≡ true
 same_self c = grind (arith, nat_tests)
 
--- one more element, where it is kept
+-- one more element, if it is kept
 any_here : {X : Type 0} (passes : Bool) (x : X) (kept : List X) (rest : Bool) → rest ≡ nat_lt 0 (length kept) →
     (passes || rest) ≡ nat_lt 0 (length (cond passes (x ∷ kept) kept))
 any_here true x kept rest e = grind (arith, nat_tests)
 any_here false x kept rest e = e
 
--- with one more counted, there are some where it passes or there were some already
+-- with one more element there are some if it passes or if there were some already
 more_than_none : (b : Bool) (n : ℕ) → (b || nat_lt 0 n) ≡ nat_lt 0 (cond b 1 0 + n)
 more_than_none true n = grind (arith, nat_tests)
 more_than_none false n = grind (arith, nat_tests)
 
--- a sum is above 0 where either number is
+-- a sum is above 0 if either number is
 either : (m n : ℕ) → (nat_lt 0 m || nat_lt 0 n) ≡ nat_lt 0 (m + n)
 either m n = grind (arith, nat_tests)
 
--- an element passes where some are kept
+-- an element passes if some are kept
 pub any_kept : {X : Type 0} (test : X → Bool) (xs : List X) → list_any test xs ≡ nat_lt 0 (length (filter test xs))
 any_kept test [] = refl
 any_kept test (x ∷ xs) = any_here (test x) x (filter test xs) (list_any test xs) (any_kept test xs)
 
--- a list names a class where the class is in it
+-- a list names a class if the class is in it
 pub names_times : (classes : List Class) (c : Class) → lists_class classes c ≡ nat_lt 0 (times classes c)
 unfolding times
 names_times classes c = any_kept (same_class c) classes
 
--- in two lists joined it is as often as in both together
+-- two lists joined have a class as often as both together
 pub times_append : (xs ys : List Class) (c : Class) → times (xs ++ ys) c ≡ times xs c + times ys c
 unfolding times
 times_append xs ys c = rw (filter-append, length-append) refl
@@ -88,18 +88,18 @@ pub times_nil : (c : Class) → times [] c ≡ 0
 unfolding times
 times_nil c = refl
 
--- a class is in a unit where it is among the classes of the units
+-- a class is in a unit if it is among the classes of the units
 pub is_unit_times : (units : List (Class × List ℤ)) (c : Class) → is_unit units c ≡ nat_lt 0 (times (map (λ unit. unit.0) units) c)
 is_unit_times [] c = rw (times_nil c) refl
 is_unit_times (unit ∷ units) c = rw (times_cons, is_unit_times units c) (more_than_none (same_class c unit.0) (times (map (λ u. u.0) units) c))
 
--- a class is in a siding where it is among the classes of the sidings
+-- a class is in a siding if it is among the classes of the sidings
 pub is_sided_times : (sidings : List Siding) (c : Class) → is_sided sidings c ≡ nat_lt 0 (times (sided_classes sidings) c)
 is_sided_times [] c = rw (times_nil c) refl
 is_sided_times (siding ∷ sidings) c = rw (times_append siding.classes (sided_classes sidings) c, is_sided_times sidings c, names_times siding.classes c)
     (either (times siding.classes c) (times (sided_classes sidings) c))
 
--- a class is requested where it is among all classes
+-- a class is requested if it is among all classes
 pub is_asked_times : (parts : Parts) (c : Class) → is_asked parts c ≡ nat_lt 0 (times (asked_classes parts) c)
 unfolding is_asked
 is_asked_times parts c =

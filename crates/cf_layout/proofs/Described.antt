@@ -29,7 +29,7 @@ range_rises n a = λ k below.
     let l : length (range_with_len a n) ≡ n = length-range_with_len a n in
     rw (get_or-range_with_len a n k 0 (omega arith), get_or-range_with_len a n (k + 1) 0 (omega arith)) (omega arith)
 
--- so do the numbers of stages
+-- so the numbers of stages ascend
 stage_numbers_rise : IsStrictlyIncreasing stage_numbers
 unfolding stage_numbers
 stage_numbers_rise = range_rises 32 1
@@ -54,17 +54,17 @@ places_kept q (c ∷ cs) = places_step (q (place_of c)) c (filter (λ d. q (plac
 placed : List Class → ℕ → Bool
 placed classes n = list_any (λ d. nat_eq n (place_of d)) classes
 
--- classes that are kept from some that ascend ascend
+-- what is kept of classes in ascending order is in ascending order
 kept_rise : (classes cs : List Class) → IsStrictlyIncreasing (map place_of cs) → IsStrictlyIncreasing (map place_of (filter (lists_class classes) cs))
 unfolding placed
 kept_rise classes cs rise = rw (places_kept (placed classes) cs) (IsStrictlyIncreasing-filter (placed classes) (map place_of cs) rise)
 
--- a list of classes ascends in class order
+-- a list of classes is ascending once it is in class order
 classes_rise : (classes : List Class) → IsStrictlyIncreasing (map place_of (in_class_order classes))
 unfolding in_class_order
 classes_rise classes = kept_rise classes computed_classes (range_rises 9 0)
 
--- a number that is listed is within the bounds of the list, by what the first number is
+-- a number in the list is within the bounds of the list, by whether it is the first one
 within_here : (n i : ℕ) (z : ℤ) → is_integer i z ≡ true → is_integer_within 1 n z ≡ true → (1 ≤ i) × (i ≤ n)
 within_here n i (pos m) same in_bounds = (grind (arith, nat_tests), grind (arith, nat_tests))
 within_here n i (negsuc m) same in_bounds = cc
@@ -75,13 +75,13 @@ within_step : (n i : ℕ) (z : ℤ) (here rest : Bool) → is_integer i z ≡ he
 within_step n i z true rest at e in_bounds later = within_here n i z at in_bounds
 within_step n i z false rest at e in_bounds later = later e
 
--- a number that is listed is within the bounds of the list
+-- a number in the list is within the bounds of the list
 listed_within : (n i : ℕ) (stages : List ℤ) → All (λ z. is_integer_within 1 n z ≡ true) stages → list_any (is_integer i) stages ≡ true → (1 ≤ i) × (i ≤ n)
 listed_within n i [] all e = cc
 listed_within n i (z ∷ zs) all e = within_step n i z (is_integer i z) (list_any (is_integer i) zs) refl e (all 0 z (omega arith))
     (λ later. listed_within n i zs (All-tail (λ y. is_integer_within 1 n y ≡ true) z zs all) later)
 
--- what is listed is from the requested stages
+-- the ascending list of stages is within the bounds of the requested ones
 ascending_within : (n : ℕ) (stages : List ℤ) → All (λ z. is_integer_within 1 n z ≡ true) stages → All (λ i. (1 ≤ i) × (i ≤ n)) (ascending stages)
 unfolding ascending
 ascending_within n stages all = λ k d within. listed_within n _ stages all (filter_passes (λ i. list_any (is_integer i) stages) stage_numbers k d within)
@@ -131,18 +131,18 @@ order_computed : (classes : List Class) → All IsComputed (in_class_order class
 unfolding in_class_order
 order_computed classes = λ k d within. All-filter (lists_class classes) IsComputed computed_classes all_computed k d within
 
--- numbers that are within bounds
+-- numbers within bounds, as natural numbers
 is_stage : (n : ℕ) (z : ℤ) → is_integer_within 1 n z ≡ true → (1 ≤ natural z) × (natural z ≤ n)
 is_stage n (pos m) e = (grind (arith, nat_tests), grind (arith, nat_tests))
 is_stage n (negsuc m) e = cc
 
--- and their order
+-- their order stays the same
 natural_order : (n : ℕ) (y z : ℤ) → is_integer_within 1 n y ≡ true → is_integer_within 1 n z ≡ true → y <ℤ z → natural y < natural z
 natural_order n (pos a) (pos b) e f o = omega (arith, ints)
 natural_order n (pos a) (negsuc b) e f o = cc
 natural_order n (negsuc a) z e f o = cc
 
--- a list with one element that names Memory is the list of Memory alone
+-- a list with one element that names Memory consists of Memory alone
 memory_only : (classes : List Class) → lists_class classes Memory ≡ true → length classes ≡ 1 → classes ≡ Memory ∷ []
 memory_only [] named one = cc
 memory_only (c ∷ []) named one = let e = same_true Memory c (sym (or-false (same_class Memory c)) ∙ named) in rw (← e) refl
@@ -170,7 +170,7 @@ siding_described plan siding computed s = record {
       ap in_class_order (memory_only siding.classes named (s.memory_alone named)) ∙ memory_in_order;
 }
 
--- the stages of a computed class in the layout that is described
+-- the stages of a computed class in the layout that the parts describe
 pub described_stages : (parts : Parts) (c : Class) → IsComputed c → stages_of (plan_of parts) c ≡ ascending (stages_listed parts.units c)
 unfolding stages_of plan_of units_plan
 described_stages parts Add small = refl
@@ -185,7 +185,7 @@ described_stages parts Div small = refl
 described_stages parts Serial small = absurd (omega arith)
 described_stages parts Free small = absurd (omega arith)
 
--- nothing is kept where nothing passes
+-- nothing is kept if nothing passes
 none_kept : (xs : List ℕ) → filter (λ i. false) xs ≡ []
 none_kept [] = refl
 none_kept (x ∷ xs) = none_kept xs
@@ -205,12 +205,12 @@ stage_count : length stage_numbers ≡ 32
 unfolding stage_numbers
 stage_count = length-range_with_len 1 32
 
--- the number is itself
+-- a number within bounds is itself as a natural number
 number_self : (n : ℕ) (z : ℤ) → is_integer_within 1 n z ≡ true → is_integer (natural z) z ≡ true
 number_self n (pos m) e = grind (arith, nat_tests)
 number_self n (negsuc m) e = cc
 
--- where a stage is listed, the ascending stages have one
+-- if a stage is listed, the ascending list has a stage
 ascending_some : (n : ℕ) (stages : List ℤ) → n ≤ 32 → 0 < length stages → All (λ z. is_integer_within 1 n z ≡ true) stages → 0 < length (ascending stages)
 unfolding ascending
 ascending_some n [] few some all = absurd (omega arith)
@@ -239,7 +239,7 @@ entry_some n [] c all e = cc
 entry_some n (unit ∷ units) c all e = entry_step n (same_class c unit.0) (is_unit units c) unit (find (λ v. same_class c v.0) units) e
     (all 0 unit (omega arith)) (λ later. entry_some n units c (All-tail (IsUnit n) unit units all) later)
 
--- the same of what is listed
+-- the same for the entry that is found
 listed_some : (n : ℕ) (units : List (Class × List ℤ)) (c : Class) → All (IsUnit n) units → is_unit units c ≡ true →
     (0 < length (stages_listed units c)) × All (λ z. is_integer_within 1 n z ≡ true) (stages_listed units c)
 unfolding stages_listed
@@ -256,12 +256,12 @@ entry_none : (units : List (Class × List ℤ)) (c : Class) → is_unit units c 
 entry_none [] c e = refl
 entry_none (unit ∷ units) c e = entry_none_step (same_class c unit.0) (is_unit units c) unit (find (λ v. same_class c v.0) units) e (entry_none units c)
 
--- the same of what is listed
+-- the same for the entry that is found
 pub listed_none : (units : List (Class × List ℤ)) (c : Class) → is_unit units c ≡ false → stages_listed units c ≡ []
 unfolding stages_listed
 listed_none units c e = entry_none units c e
 
--- stages are one home where there are some
+-- a list of stages is one home if it is not empty
 one_home : (stages : List ℕ) → 0 < length stages → unit_homes stages ≡ 1
 one_home [] some = absurd (omega arith)
 one_home (i ∷ is) some = refl
@@ -272,13 +272,13 @@ unit_home_by : (n : ℕ) (units : List (Class × List ℤ)) (c : Class) (some : 
 unit_home_by n units c true few all e = let l = listed_some n units c all e in one_home _ (ascending_some n (stages_listed units c) few l.0 l.1)
 unit_home_by n units c false few all e = rw (listed_none units c e, ascending_none) refl
 
--- how many of the sidings that are described serve a class, with one more siding
+-- how many of the described sidings serve a class, with one more siding
 served_step : (t : ℕ) (named : Bool) (siding : SidingPlan) (kept : List SidingPlan) (rest : ℕ) → named ≡ nat_lt 0 t → t + rest ≤ 1 → length kept ≡ rest →
     length (cond named (siding ∷ kept) kept) ≡ t + rest
 served_step t true siding kept rest e once same = let some : 0 < t = lt_true 0 t (sym e) in omega arith
 served_step t false siding kept rest e once same = let none : t ≡ 0 = grind (arith, nat_tests) in omega arith
 
--- a siding that is described serves a class where the requested siding names it
+-- a described siding serves a class if the requested siding names it
 pub serves_named : (siding : asked.Siding) (c : Class) → IsComputed c → serves (siding_plan siding) c ≡ lists_class siding.classes c
 unfolding serves siding_plan
 serves_named siding c small = in_order_names siding.classes c small
@@ -301,18 +301,18 @@ served_times (siding ∷ sidings) c small once =
     let r = served_times sidings c small (omega arith) in
     served_more c siding sidings (serves_named siding c small ∙ names_times siding.classes c) e (omega arith) r
 
--- the sidings that serve a class in the layout that is described
+-- the sidings that serve a class in the layout that the parts describe
 described_served : (parts : Parts) (c : Class) → IsComputed c → times (sided_classes parts.sidings) c ≤ 1 →
     length (filter (λ siding. serves siding c) (plan_of parts).sidings) ≡ times (sided_classes parts.sidings) c
 unfolding plan_of
 described_served parts c small once = served_times parts.sidings c small once
 
--- a number that is at most 1 is 1 where it is above 0, and else 0
+-- a number that is at most 1 is 1 if it is above 0, and otherwise 0
 at_most_one : (n : ℕ) → n ≤ 1 → cond (nat_lt 0 n) 1 0 ≡ n
 at_most_one zero le = refl
 at_most_one (suc n) le = let e : suc n ≡ 1 = omega arith in rw e refl
 
--- in a layout that is described a class has as many homes as the number of times that it is requested
+-- in a described layout a class has as many homes as the number of times that it is requested
 pub homes_times : (parts : Parts) (c : Class) → IsComputed c → natural parts.stages ≤ 32 → All (IsUnit (natural parts.stages)) parts.units →
     times (asked_classes parts) c ≤ 1 → homes (plan_of parts) c ≡ times (asked_classes parts) c
 unfolding homes
@@ -330,7 +330,7 @@ one_where_asked parts c small few units once e =
     let some : 0 < times (asked_classes parts) c = lt_true 0 _ (sym (is_asked_times parts c) ∙ e) in
     homes_times parts c small few units once ∙ omega arith
 
--- two classes, both or neither of which are requested, have the same number of homes
+-- two classes have the same number of homes if both are requested or neither is
 pub same_homes : (parts : Parts) (c d : Class) → IsComputed c → IsComputed d → natural parts.stages ≤ 32 → All (IsUnit (natural parts.stages)) parts.units →
     ((k : Class) → times (asked_classes parts) k ≤ 1) → is_asked parts c ≡ is_asked parts d → homes (plan_of parts) c ≡ homes (plan_of parts) d
 same_homes parts c d small small' few units once e =

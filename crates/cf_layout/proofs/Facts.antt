@@ -1,4 +1,4 @@
--- What follows where a layout is accepted, in the form in which the rules of the moves need it.
+-- What follows if a layout is accepted, in the form that the rules of the moves need.
 use Rattle.std.proofs.Common.{◌≡◌, ◌⊎◌, inl, inr, ℕ, zero, suc, ◌<◌, ◌≤◌, List, [], ◌∷◌, All, Bool, true, false, Option, Some, None, length, get_or, refl, ap, subst, arith, ◌∙◌, sym}
 use Rattle.std.specs.Prelude.{◌||◌, filter, position, slice_get, nat_eq, is_some, unwrap_or}
 use Rattle.std.specs.List.{list_any}
@@ -15,7 +15,7 @@ use Rattle.cf_layout.proofs.Counts.{same_true, any_kept}
 use Rattle.cf_layout.proofs.Passing.{lt_true}
 use Rattle.cf_layout.proofs.Reading.{homed}
 
--- an element of a list by its index, in two readings
+-- an element of a list by its index, read in two ways
 read_at : (sidings : List SidingPlan) (k : ℕ) → k < length sidings → unwrap_or (slice_get sidings k) no_siding ≡ get_or sidings k no_siding
 read_at [] k within = absurd (omega arith)
 read_at (s ∷ ss) zero within = refl
@@ -46,12 +46,12 @@ pub has_cells : (plan : Plan) → IsAccepted plan → (c : Class) (k : ℕ) → 
 unfolding cells_of
 has_cells plan a c k e = (siding_rules plan a.equipped c k e).cells
 
--- a list with some stage in it is one home
+-- a list with a stage in it is one home
 some_stage : (i : ℕ) (stages : List ℕ) → list_any (nat_eq i) stages ≡ true → unit_homes stages ≡ 1
 some_stage i [] e = cc
 some_stage i (j ∷ js) e = refl
 
--- where something is found something is kept
+-- if an element is found, an element is kept
 some_kept : (test : SidingPlan → Bool) (sidings : List SidingPlan) (k : ℕ) → position test sidings ≡ Some k → 0 < length (filter test sidings)
 some_kept test sidings k e =
     let p = position-Some test sidings k no_siding e in
@@ -133,7 +133,7 @@ pub memory_launches : (plan : Plan) (k : ℕ) → siding_of plan Memory ≡ Some
 unfolding memory_launch
 memory_launches plan k e = rw e refl
 
--- the siding of Memory is for nothing else
+-- Memory's siding is for nothing else
 pub memory_alone : (plan : Plan) → IsAccepted plan → (k : ℕ) (c : Class) → siding_of plan Memory ≡ Some k → siding_of plan c ≡ Some k → c ≡ Memory
 unfolding serves
 memory_alone plan a k c e f =
@@ -153,7 +153,7 @@ in_list P i [] all e = cc
 in_list P i (j ∷ js) all e = in_list_step P i j (nat_eq i j) (list_any (nat_eq i) js) refl e (all 0 0 (omega arith))
     (λ later. in_list P i js (All-tail P j js all) later)
 
--- each list of stages, and the empty list for one that does not exist, has stages of the pipeline
+-- each list of stages, and the empty list for a class without an index, has only stages of the pipeline
 lists_within : (plan : Plan) (units : List (List ℕ)) (place : ℕ) → All (All (IsStage plan)) units → All (IsStage plan) (unwrap_or (slice_get units place) [])
 lists_within plan [] place all = All-nil (IsStage plan)
 lists_within plan (stages ∷ units) zero all = all 0 [] (omega arith)
@@ -169,7 +169,8 @@ last_in : (i : ℕ) (stages : List ℕ) (other : ℕ) → list_any (nat_eq (last
 last_in i [] other = let e : nat_eq i i ≡ true = grind (arith, nat_tests) in rw e refl
 last_in i (j ∷ js) other = let r = last_in j js i in rw r (or-true (nat_eq (last_of (j ∷ js) i) i))
 
--- the last stage of a class is in its list, where it has one, or else the recovery of its siding
+-- the last stage of a class is in its list if the list is not empty, and otherwise it is the recovery stage of its
+-- siding
 last_by : (plan : Plan) (stages : List ℕ) (o : Option ℕ) → (list_any (nat_eq (last_of stages (recovers_by plan o))) stages ≡ true)
     ⊎ (last_of stages (recovers_by plan o) ≡ recovers_by plan o)
 last_by plan [] o = inr refl

@@ -1,4 +1,4 @@
--- The highest stage of a set is found by the zeros that lead its word.
+-- The highest stage of a set is found from the number of leading zeros of its word.
 use Rattle.std.proofs.Common.{◌≡◌, ◌∙◌, ℕ, List, zero, suc, ◌+◌, ◌-◌, ◌*◌, ◌/◌, ◌%◌, ◌^◌, ◌<◌, ◌≤◌, [], ◌∷◌, Bool, true, false, cond, refl, sym, ap, arith}
 use Rattle.std.specs.Int.{leading_zeros}
 use Rattle.std.proofs.Math.Nat.{div-eq_of_lt, div-eq_of_lt-le, pow-le-pow_right, pow-suc}
@@ -8,7 +8,7 @@ use Rattle.cf_layout.specs.Layout.{last_of}
 use Rattle.cf_layout.specs.Words.{has_bit, stages_of_word}
 use Rattle.cf_layout.proofs.Words.{stages_from, from_next, from_first, from_end, no_stages}
 
--- a word below a power of two has no bit from there on
+-- a word below a power of two has no bit from that power on
 no_high_bit : (w n i : ℕ) → w < 2 ^ n → n ≤ i → has_bit w i ≡ false
 unfolding has_bit
 no_high_bit w n i small high = let p : 2 ^ n ≤ 2 ^ i = pow-le-pow_right (omega arith) high in let e : w / 2 ^ i ≡ 0 = div-eq_of_lt (omega arith) in rw e refl
@@ -26,7 +26,7 @@ none_above w j (suc d) s small above at =
     let off = no_high_bit w (suc j) (s - 1) small (omega arith) in
     rw (n, off) (none_above w j d (s + 1) small (omega arith) (omega arith))
 
--- what is last in a list that may begin with one more number
+-- the last element of a list that may begin with one more number
 last_in : (has : Bool) (s other last : ℕ) (ss : List ℕ) → ((o : ℕ) → last_of ss o ≡ last) → last_of (cond has (s ∷ ss) ss) other ≡ last
 last_in true s other last ss same = same s
 last_in false s other last ss same = same other
@@ -50,6 +50,6 @@ last_of_some w other some small =
     let e : 32 - leading_zeros w32 w ≡ suc t.0 = omega (arith, t.1) in
     e ∙ sym (rw from_first at (last_from w t.0 t.0 1 other t.2 t.3 (omega (arith, t.1)) (omega arith) (omega arith)))
 
--- and where there is no stage it is the other number
+-- if there is no stage, it is the other number
 pub last_of_none : (w other : ℕ) → w ≡ 0 → other ≡ last_of (stages_of_word w) other
 last_of_none w other none = rw (none, no_stages) refl

@@ -1,4 +1,4 @@
--- A list that ascends is what is kept of all numbers by asking whether they are in it.
+-- An ascending list is what remains of all numbers if each is kept that is in the list.
 use Rattle.std.proofs.Common.{◌≡◌, ℕ, zero, suc, ◌+◌, ◌<◌, ◌≤◌, List, [], ◌∷◌, All, Bool, true, false, cond, length, map, refl, ap, arith, ◌∙◌, pos, subst}
 use Rattle.std.specs.Prelude.{filter, nat_eq, ◌||◌}
 use Rattle.std.specs.List.{list_any, range_with_len}
@@ -29,7 +29,7 @@ rises_after : (x : ℕ) (xs : List ℕ) → IsStrictlyIncreasing (x ∷ xs) → 
 rises_after x [] rise = tt
 rises_after x (y ∷ ys) rise = let more : x < y = rise 0 (omega arith) in (omega arith, rises_after y ys (rises_tail x (y ∷ ys) rise))
 
--- numbers that ascend, none of which is below a bound, ascend from that bound on
+-- ascending numbers, none of which is below a bound, ascend from that bound on
 pub rises_from : (k : ℕ) (xs : List ℕ) → IsStrictlyIncreasing xs → All (λ x. k ≤ x) xs → Rises k xs
 rises_from k [] rise low = tt
 rises_from k (x ∷ xs) rise low = (low 0 0 (omega arith), rises_after x xs rise)
@@ -88,7 +88,7 @@ kept_same test (suc n) k [] rise low same = first_lost test k _ [] (same k (omeg
 kept_same test (suc n) k (x ∷ xs) rise low same = kept_by test n k x xs (nat_eq k x) refl rise low same
     (λ ys up down alike. kept_same test n (k + 1) ys up down alike)
 
--- numbers that ascend below a bound are few
+-- ascending numbers below a bound are few
 rises_few : (k bound : ℕ) (xs : List ℕ) → k ≤ bound → Rises k xs → AreBelow bound xs → length xs + k ≤ bound
 rises_few k bound [] within rise low = omega arith
 rises_few k bound (x ∷ xs) within rise low =
@@ -97,19 +97,19 @@ rises_few k bound (x ∷ xs) within rise low =
     let rest = rises_few (suc x) bound xs (omega arith) rise.1 low.1 in
     omega arith
 
--- the numbers of a list, requested as integers
+-- the numbers of a list, as integers that are requested
 numbers_same : (i : ℕ) (stages : List ℕ) → list_any (is_integer i) (map (λ n. pos n) stages) ≡ list_any (nat_eq i) stages
 numbers_same i [] = refl
 numbers_same i (x ∷ xs) = ap (λ (b : Bool). nat_eq i x || b) (numbers_same i xs)
 
--- stages from 1 to 32 that ascend are what comes back where they are requested
+-- ascending stages from 1 to 32 are read as they were requested
 pub ascending_same : (stages : List ℕ) → IsStrictlyIncreasing stages → All (λ i. 1 ≤ i) stages → All (λ i. i < 33) stages →
     ascending (map (λ n. pos n) stages) ≡ stages
 unfolding ascending stage_numbers
 ascending_same stages rise low high = kept_same (λ i. list_any (is_integer i) (map (λ n. pos n) stages)) 32 1 stages (rises_from 1 stages rise low)
     (below_from 33 stages high) (λ i from. numbers_same i stages)
 
--- and are at most 32
+-- there are at most 32 of them
 pub few_stages : (stages : List ℕ) → IsStrictlyIncreasing stages → All (λ i. 1 ≤ i) stages → All (λ i. i < 33) stages → length stages ≤ 32
 few_stages stages rise low high = let few = rises_few 1 33 stages (omega arith) (rises_from 1 stages rise low) (below_from 33 stages high) in omega arith
 
@@ -132,7 +132,7 @@ unfolding has_place
 places_same n [] = refl
 places_same n (c ∷ cs) = ap (λ (b : Bool). nat_eq n (place_of c) || b) (places_same n cs)
 
--- lists with the same indices are the same
+-- lists with the same indices are equal
 one_place : (x y : ℕ) (xs ys : List ℕ) → x ∷ xs ≡ y ∷ ys → (x ≡ y) × (xs ≡ ys)
 one_place x y xs ys e = (cc, cc)
 
@@ -143,7 +143,7 @@ same_places (c ∷ cs) [] e = cc
 same_places (c ∷ cs) (d ∷ ds) e = let p = one_place (place_of c) (place_of d) (map place_of cs) (map place_of ds) e in
     rw (same_place c d p.0, same_places cs ds p.1) refl
 
--- computed classes that ascend are what comes back where they are requested
+-- ascending computed classes are read as they were requested
 order_places : (classes : List Class) → map place_of (in_class_order classes) ≡ filter (has_place classes) (range_with_len 0 9)
 unfolding in_class_order has_place
 order_places classes = kept_places (λ n. list_any (λ d. nat_eq n (place_of d)) classes) computed_classes
@@ -154,7 +154,7 @@ in_order_same classes rise small =
     (order_places classes ∙ kept_same (has_place classes) 9 0 (map place_of classes) (rises_from 0 (map place_of classes) rise (λ k d within. omega arith))
     (below_from 9 (map place_of classes) (All-map (λ n. n < 9) place_of classes small)) (λ i from. places_same i classes))
 
--- and are at most nine
+-- there are at most nine of them
 pub few_classes : (classes : List Class) → IsStrictlyIncreasing (map place_of classes) → All (λ c. place_of c < 9) classes → length classes ≤ 9
 few_classes classes rise small =
     let few = rises_few 0 9 (map place_of classes) (omega arith) (rises_from 0 (map place_of classes) rise (λ k d within. omega arith))

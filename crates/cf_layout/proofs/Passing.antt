@@ -23,44 +23,44 @@ pub holds : (b : Bool) (e : LayoutErr) → unless b e ≡ None → b ≡ true
 holds true e p = refl
 holds false e p = cc
 
--- of two tests that refuse nothing the first refuses nothing
+-- if two tests refuse nothing, the first refuses nothing
 pub first_passes : (a b : Option LayoutErr) → option_or a b ≡ None → a ≡ None
 first_passes None b e = refl
 first_passes (Some x) b e = cc
 
--- and so does the other
+-- and neither does the second
 pub next_passes : (a b : Option LayoutErr) → option_or a b ≡ None → b ≡ None
 next_passes None b e = e
 next_passes (Some x) b e = cc
 
--- what is not true is false
+-- a Boolean that is not true is false
 pub not_true : (b : Bool) → not b ≡ true → b ≡ false
 not_true true e = sym e
 not_true false e = refl
 
--- what is not false is true
+-- a Boolean that is not false is true
 pub not_false : (b : Bool) → not b ≡ false → b ≡ true
 not_false true e = refl
 not_false false e = sym e
 
--- no element of the list fails, by whether the first does
+-- no element of the list fails, by whether the first one does
 none_step : {X : Type 0} (P : X → Type 0) (fails : Bool) (x : X) (rest : Option X) → (fails ≡ false → P x) → cond fails (Some x) rest ≡ None →
     P x × (rest ≡ None)
 none_step P true x rest here e = cc
 none_step P false x rest here e = (here refl, e)
 
--- where no element is found each fails the test
+-- if no element is found, each fails the test
 pub all_fail : {X : Type 0} (test : X → Bool) (xs : List X) → find test xs ≡ None → All (λ x. test x ≡ false) xs
 all_fail test [] e = All-nil (λ x. test x ≡ false)
 all_fail test (x ∷ xs) e =
     let r = none_step (λ y. test y ≡ false) (test x) x (find test xs) (λ f. f) e in
     All-cons (λ y. test y ≡ false) x xs r.0 (all_fail test xs r.1)
 
--- where no element is found that fails each passes
+-- if no element is found that fails, each passes
 pub none_found : {X : Type 0} (test : X → Bool) (xs : List X) → find (λ x. not (test x)) xs ≡ None → All (λ x. test x ≡ true) xs
 none_found test xs e = λ k d within. not_false _ (all_fail (λ x. not (test x)) xs e k d within)
 
--- a number within bounds fits 32 bits where the bounds do
+-- a number within bounds fits 32 bits if the bounds do
 pub within_word : (z : ℤ) (least most : ℕ) → is_integer_within least most z ≡ true → most ≤ 4294967295 → is_integer_within 0 4294967295 z ≡ true
 within_word (pos n) least most e small = grind (arith, nat_tests)
 within_word (negsuc n) least most e small = cc
@@ -89,7 +89,7 @@ none_outside : (c : Class) (o : Option ℤ) → outside c o ≡ None → o ≡ N
 none_outside c None e = refl
 none_outside c (Some z) e = cc
 
--- a class that passes the test of not being Memory is not Memory
+-- a class passes the test if it is not Memory
 not_memory : (c : Class) → not (same_class c Memory) ≡ true → c ≢ Memory
 not_memory c t = λ e. let s : same_class c Memory ≡ true = rw e refl in cc
 
@@ -128,7 +128,7 @@ stages_hold n siding first e =
     let g = next_passes _ _ f in
     (holds _ _ (first_passes _ _ e), holds _ _ (first_passes _ _ f), holds _ _ (first_passes _ _ g), int_order _ _ (holds _ _ (next_passes _ _ g)))
 
--- Memory is beside no other class
+-- Memory shares its siding with no other class
 alone_holds : (named : Bool) (n : ℕ) → not (named && nat_lt 1 n) ≡ true → 0 < n → named ≡ true → n ≡ 1
 alone_holds true n e some t = grind (arith, nat_tests)
 alone_holds false n e some t = cc
@@ -139,7 +139,7 @@ classes_alone : (elsewhere : Class → Bool) (classes : List Class) → classes_
 unfolding classes_refusal
 classes_alone elsewhere classes e some t = alone_holds (lists_class classes Memory) (length classes) (holds _ _ (next_passes _ _ e)) some t
 
--- a siding whose classes these are
+-- a siding with these classes
 filled_holds : (n : ℕ) (elsewhere : Class → Bool) (index : ℕ) (siding : asked.Siding) (classes : List Class) →
     filled_refusal n elsewhere index siding classes ≡ None → classes ≡ siding.classes → IsSiding n siding
 filled_holds n elsewhere index siding [] e same = cc
@@ -176,17 +176,17 @@ small_siding n siding few s = record {
   cells = within_word siding.cells 1 8 s.cells (omega arith);
 }
 
--- so have all sidings that are not refused
+-- so all sidings that are not refused have small numbers
 pub small_sidings : (n : ℕ) (units : List (Class × List ℤ)) (sidings : List asked.Siding) → sidings_refusal n units [] sidings ≡ None → n ≤ 32 →
     All IsSmallSiding sidings
 small_sidings n units sidings e few = λ k d within. small_siding n _ few (sidings_hold n units [] sidings e k d within)
 
--- where a test answers that it passes there is no refusal
+-- if the result of a test is that it passes, there is no refusal
 pub none_told : (o : Option LayoutErr) (answer : Result (Unit {0}) LayoutErr) (u : Unit {0}) → answer ≡ test_outcome o → answer ≡ Ok u → o ≡ None
 none_told None answer u told_so passes = refl
 none_told (Some e) answer u told_so passes = cc
 
--- so after an answer that lets them pass
+-- so the sidings are small after such a result
 pub told_small : (n : ℕ) (units : List (Class × List ℤ)) (sidings : List asked.Siding) (o : Option LayoutErr) → sidings_refusal n units [] sidings ≡ o →
     n ≤ 32 → OnOk (test_outcome o) (All IsSmallSiding sidings)
 told_small n units sidings None e few = small_sidings n units sidings e few
@@ -213,17 +213,17 @@ once_step : (off seen same : Bool) (rest : ℕ) → (same ≡ true → (off || s
 once_step off seen true rest free le = once_same rest off seen (free refl) le
 once_step off seen false rest free le = once_other rest off seen le
 
--- the test of the next class lets it pass
+-- the search does not stop at the next class
 first_alone : (b : Bool) (x : Class) (rest : Option Class) → cond b (Some x) rest ≡ None → b ≡ false
 first_alone true x rest e = cc
 first_alone false x rest e = refl
 
--- and the test of those after it lets them pass
+-- and it does not stop at those after it
 rest_alone : (b : Bool) (x : Class) (rest : Option Class) → cond b (Some x) rest ≡ None → rest ≡ None
 rest_alone true x rest e = cc
 rest_alone false x rest e = e
 
--- nothing and one more is at most one
+-- 0 plus at most one is at most one
 one_at_most : (b : Bool) → 0 + cond b 1 0 ≤ 1
 one_at_most true = omega arith
 one_at_most false = omega arith
@@ -243,7 +243,7 @@ none_twice : (o : Option Class) → twice o ≡ None → o ≡ None
 none_twice None e = refl
 none_twice (Some c) e = cc
 
--- three tests in another grouping
+-- three tests, grouped differently
 or_regroup : (a b c : Bool) → (a || (b || c)) ≡ ((a || b) || c)
 or_regroup true b c = refl
 or_regroup false b c = refl
@@ -253,12 +253,12 @@ sided_by : (t r : ℕ) (some : Bool) → nat_lt 0 t ≡ some → t + 0 ≤ 1 →
 sided_by t r true e one rest = omega arith
 sided_by t r false e one rest = let none : t ≡ 0 = grind (arith, nat_tests) in omega arith
 
--- by whether the first has it
+-- a class in the first list or not
 both_by : (u t : ℕ) (some : Bool) → nat_lt 0 u ≡ some → u + 0 ≤ 1 → t + cond some 1 0 ≤ 1 → u + t ≤ 1
 both_by u t true e one rest = omega arith
 both_by u t false e one rest = let none : u ≡ 0 = grind (arith, nat_tests) in omega arith
 
--- once in either of two lists
+-- a class is once in either of two lists
 both_once : (u t : ℕ) → u + 0 ≤ 1 → t + cond (nat_lt 0 u) 1 0 ≤ 1 → u + t ≤ 1
 both_once u t one rest = both_by u t (nat_lt 0 u) refl one rest
 

@@ -1,10 +1,10 @@
--- The entries for sidings, used one after the other.
+-- The entries for sidings are filled one after the other.
 use Rattle.std.proofs.Common.{◌≡◌, ℕ, ◌+◌, ◌-◌, ◌<◌, ◌≤◌, suc, List, ◌++◌, length, get_or, take, map, replicate, refl, arith, add-one, append_assoc}
 use Rattle.std.specs.Prelude.{slice_set}
 use Rattle.std.proofs.Math.Seq.{take-suc, set-append_seam}
 use Rattle.std.proofs.lemmas.List.{map-append, length-map, length-take-le}
 
--- one more entry is used
+-- one more entry is filled
 place_next : {X Y : Type 0} (f : X → Y) (xs : List X) (i : ℕ) (d : X) (none : Y) → i < length xs → length xs ≤ 8 →
     slice_set (map f (take i xs) ++ replicate (8 - i) none) i (f (get_or xs i d)) ≡ map f (take (suc i) xs) ++ replicate (8 - suc i) none
 place_next f xs i d none within few =

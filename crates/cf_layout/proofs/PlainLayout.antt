@@ -47,7 +47,7 @@ plain_homes Free e = cc
 plain_homes Mul e = cc
 plain_homes Div e = cc
 
--- neither multiplication nor division has one
+-- neither multiplication nor division has a home
 plain_pair : (homes plain Mul ≡ 0) × (homes plain Div ≡ 0)
 unfolding homes stages_of serves
 plain_pair = (refl, refl)

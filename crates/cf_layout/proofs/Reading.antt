@@ -1,4 +1,4 @@
--- What a layout's readers answer.
+-- What the readers of a layout return.
 use Rattle.std.proofs.Common.{◌≡◌, ◌∙◌, cond, get_or, zero, suc, ◌+◌, ℕ, ◌<◌, ◌≤◌, List, [], ◌∷◌, length, Bool, true, false, Some, None, refl, arith}
 use Rattle.std.specs.Prelude.{filter, position, slice_get, nat_lt, nat_eq, not, is_some, ◌||◌, unwrap_or}
 use Rattle.std.specs.List.{position_or_len}
@@ -29,23 +29,23 @@ pub stages_without : (plan : Plan) (c : Class) → length plan.units ≤ place_o
 unfolding stages_of
 stages_without plan c after = after_end plan.units (place_of c) after
 
--- an element that passes is kept, and found
+-- an element that passes is kept, and one is found
 kept_here : {X : Type 0} (passes : Bool) (x : X) (kept : List X) (before n : ℕ) → nat_lt 0 (length kept) ≡ nat_lt before n →
     nat_lt 0 (length (cond passes (x ∷ kept) kept)) ≡ nat_lt (cond (not passes) (1 + before) 0) (suc n)
 kept_here true x kept before n same = grind (arith, nat_tests)
 kept_here false x kept before n same = grind (arith, nat_tests)
 
--- some element is kept where one is found
+-- an element is kept if one is found
 kept_found : {X : Type 0} (test : X → Bool) (xs : List X) → nat_lt 0 (length (filter test xs)) ≡ nat_lt (position_or_len test xs) (length xs)
 kept_found test [] = refl
 kept_found test (x ∷ xs) = kept_here (test x) x (filter test xs) (position_or_len test xs) (length xs) (kept_found test xs)
 
--- there is something where the test says so
+-- there is an element if the test says so
 something : {X : Type 0} (b : Bool) (x : X) → is_some (cond b (Some x) None) ≡ b
 something true x = refl
 something false x = refl
 
--- a class is homed where it has a stage or a siding
+-- a class has a home if it has a stage or a siding
 homed_where : (stages : List ℕ) (c : Class) (sidings : List SidingPlan) → nat_lt 0 (unit_homes stages + length (filter (λ siding. serves siding c) sidings))
     ≡ (not (nat_eq (length stages) 0) || is_some (position (λ siding. serves siding c) sidings))
 homed_where [] c sidings = let k = kept_found (λ siding. serves siding c) sidings in let s =

@@ -26,7 +26,7 @@ use Rattle.cf_layout.proofs.Acceptance.{equipped, acceptable}
 use Rattle.cf_layout.proofs.Unrefused.{not_loosely_refused, not_refused}
 use Rattle.cf_layout.proofs.Passing.{seen_more, lt_true}
 
--- what failing tests say
+-- what a failing test says
 over : (a b : ℕ) → nat_le a b ≡ false → b < a
 over a b e = grind (arith, nat_tests)
 
@@ -72,13 +72,13 @@ Says : Parts → Option LayoutErr → Type 0
 Says parts None = Unit {0}
 Says parts (Some e) = IsLayoutCause parts e
 
--- where the refusals of two tests are true, so is the first of them
+-- if the refusals of two tests are true, so is the first of them
 says_first : (parts : Parts) (a b : Option LayoutErr) → Says parts a → Says parts b → Says parts (option_or a b)
 unfolding Says
 says_first parts None b s t = t
 says_first parts (Some e) b s t = s
 
--- the refusal of a test is true where the test's failure is a cause
+-- the refusal of a test is true if the failure of the test is a cause
 says_unless : (parts : Parts) (holds : Bool) (e : LayoutErr) → (holds ≡ false → IsLayoutCause parts e) → Says parts (unless holds e)
 unfolding Says
 says_unless parts true e cause = tt
@@ -107,7 +107,7 @@ after : {X : Type 0} (P : X → Type 0) (before : List X) (x : X) (rest : List X
 after P [] x rest p = (0, x, omega arith, refl, p)
 after P (y ∷ ys) x rest p = let b = after P ys x rest p in (suc b.0, b.1, omega arith, b.3, b.4)
 
--- the list stays the same when an element is moved over to those before it
+-- a list is unchanged if an element is moved from its rest to the elements before
 taken : {X : Type 0} (before : List X) (x : X) (rest : List X) → (before ++ x ∷ []) ++ rest ≡ before ++ x ∷ rest
 taken before x rest = append_assoc before (x ∷ []) rest
 
@@ -245,7 +245,7 @@ says_classes parts before siding rest whole =
     both_true _ _ (not_off _ off) in sided (λ (s : asked.Siding). (lists_class s.classes Memory ≡ true) × (1 < length s.classes)) parts before siding rest whole
     (b.0, lt_true 1 _ b.1)))
 
--- the siding after others has their number as its index
+-- the index of the next siding is the number of those before it
 number_of : (before : List asked.Siding) (siding : asked.Siding) (rest : List asked.Siding) → slice_get (before ++ siding ∷ rest) (length before) ≡ Some siding
 number_of [] siding rest = refl
 number_of (s ∷ ss) siding rest = number_of ss siding rest
@@ -330,7 +330,7 @@ says_all : (parts : Parts) → Says parts (first_refusal parts)
 unfolding first_refusal
 says_all parts = says_first parts _ _ (says_loosely parts) (says_control parts)
 
--- what is answered is a cause
+-- what is returned is a cause
 told_cause : (parts : Parts) (o : Option LayoutErr) (e : LayoutErr) → Says parts o → o ≡ Some e → IsLayoutCause parts e
 unfolding Says
 told_cause parts None e said at = cc
@@ -340,23 +340,23 @@ told_cause parts (Some f) e said at = subst (IsLayoutCause parts) (same_Some f e
 pub causes : (parts : Parts) (e : LayoutErr) → first_refusal parts ≡ Some e → IsLayoutCause parts e
 causes parts e at = told_cause parts (first_refusal parts) e (says_all parts) at
 
--- an answer that refuses is true
+-- a result that refuses is true
 pub refused_cause : {T : Type 0} (parts : Parts) (r : Result T LayoutErr) → IfErr r (λ e. first_refusal parts ≡ Some e) → IfErr r (λ e. IsLayoutCause parts e)
 refused_cause parts (Ok x) h = tt
 refused_cause parts (Err e) h = causes parts e h
 
--- and is given for no acceptable parts
+-- and it is returned only if the parts are not acceptable
 pub refused_unacceptable : {T : Type 0} (parts : Parts) (r : Result T LayoutErr) → IfErr r (λ e. first_refusal parts ≡ Some e) →
     IfErr r (λ e. ¬ IsAcceptable parts)
 refused_unacceptable parts (Ok x) h = tt
 refused_unacceptable parts (Err e) h = λ a. let n = not_refused parts a in cc
 
--- an answer that accepts is given for acceptable parts alone
+-- a result that accepts is returned only for acceptable parts
 pub accepted_acceptable : {T : Type 0} (parts : Parts) (r : Result T LayoutErr) → IfOk r (λ x. first_refusal parts ≡ None) → IfOk r (λ x. IsAcceptable parts)
 accepted_acceptable parts (Ok x) h = acceptable parts h
 accepted_acceptable parts (Err e) h = tt
 
--- the same of the tests but the last
+-- the same for the tests but the last
 pub loosely_refused_cause : {T : Type 0} (parts : Parts) (r : Result T LayoutErr) → IfErr r (λ e. loose_refusal parts ≡ Some e) →
     IfErr r (λ e. IsLayoutCause parts e)
 loosely_refused_cause parts (Ok x) h = tt

@@ -26,7 +26,7 @@ passes b e t = rw t refl
 both : (a b : Option LayoutErr) → a ≡ None → b ≡ None → option_or a b ≡ None
 both a b e f = rw e f
 
--- no element is found where each fails the test
+-- no element is found if each fails the test
 none_step : {X : Type 0} (here : Bool) (x : X) (rest : Option X) → here ≡ false → rest ≡ None → cond here (Some x) rest ≡ None
 none_step here x rest e f = rw (e, f) refl
 
@@ -34,7 +34,7 @@ pub none_fails : {X : Type 0} (test : X → Bool) (xs : List X) → All (λ x. t
 none_fails test [] all = refl
 none_fails test (x ∷ xs) all = none_step (test x) x (find test xs) (all 0 x (omega arith)) (none_fails test xs (All-tail (λ y. test y ≡ false) x xs all))
 
--- no element is found that fails where each passes
+-- no element is found that fails if each passes
 none_outside : {X : Type 0} (test : X → Bool) (xs : List X) → All (λ x. test x ≡ true) xs → find (λ x. not (test x)) xs ≡ None
 none_outside test xs all = none_fails (λ x. not (test x)) xs (λ k d within. ap not (all k d within))
 
@@ -59,17 +59,17 @@ other_by c false e off = refl
 other_class : (c : Class) → c ≢ Memory → not (same_class c Memory) ≡ true
 other_class c off = other_by c (same_class c Memory) refl off
 
--- both or neither
+-- both are requested, or neither is
 pair_test : (m d : Bool) → m ≡ d → (m || not d) ≡ true
 pair_test true d e = refl
 pair_test false d e = rw (← e) refl
 
--- three tests in another grouping
+-- three tests, grouped differently
 or_regroup : (a b c : Bool) → (a || (b || c)) ≡ ((a || b) || c)
 or_regroup true b c = refl
 or_regroup false b c = refl
 
--- once in units, and once in sidings
+-- a class is once in units, or once in sidings
 in_units : (u t : ℕ) → u + t ≤ 1 → u + 0 ≤ 1
 in_units u t le = omega arith
 
@@ -95,7 +95,7 @@ alone_before : (seen : Bool) (rest : ℕ) → 1 + rest + cond seen 1 0 ≤ 1 →
 alone_before true rest le = absurd (omega arith)
 alone_before false rest le = refl
 
--- and is counted once for those after it
+-- and it is counted once for those after it
 once_more : (seen same : Bool) (rest : ℕ) → cond same 1 0 + rest + cond seen 1 0 ≤ 1 → rest + cond (seen || same) 1 0 ≤ 1
 once_more true same rest le = omega arith
 once_more false true rest le = omega arith
@@ -201,7 +201,7 @@ control_pass : (parts : Parts) → IsAcceptable parts → control_refusal parts 
 unfolding control_refusal
 control_pass parts a = both _ _ (turn_pass parts Branch (a.control Branch refl)) (turn_pass parts Jump (a.control Jump refl))
 
--- equipped parts pass all tests but perhaps the last
+-- equipped parts pass all tests, except perhaps the last
 pub not_loosely_refused : (parts : Parts) → AreEquipped parts → loose_refusal parts ≡ None
 unfolding loose_refusal
 not_loosely_refused parts a =

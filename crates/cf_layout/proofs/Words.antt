@@ -21,7 +21,7 @@ use Rattle.cf_layout.specs.Asked.{stage_numbers}
 use Rattle.cf_layout.specs.Kept.{stages_kept}
 use Rattle.cf_layout.specs.Words.{has_bit, members, word_of_list, bit_of, stages_of_word, classes_of_word}
 
--- one more bit in a word, by whether it is the requested one
+-- one more bit in a word, by whether it is the bit asked for
 set_bit_case : (w k i : ℕ) (same : Bool) → nat_eq i k ≡ same → k < 32 → has_bit (bit_or w (1 * 2 ^ k % 2 ^ 32)) i ≡ (same || has_bit w i)
 unfolding has_bit
 set_bit_case w k i true e small = let at : i ≡ k = grind (arith, nat_tests) in rw at (let s = bit_at_set_same w32 w k small in rw s refl)
@@ -35,7 +35,7 @@ set_bit w k i small = set_bit_case w k i (nat_eq i k) refl small
 pub set_small : (w k n : ℕ) → k < 32 → k < n → w < 2 ^ n → bit_or w (1 * 2 ^ k % 2 ^ 32) < 2 ^ n
 set_small w k n small below less = let e : 1 * 2 ^ k % 2 ^ 32 ≡ 2 ^ k = one_shl k 32 small in rw e (or_lt n w (2 ^ k) less (pow-lt below))
 
--- the list of members by what is tested instead of the bits
+-- the list of members, given a test that agrees with the bits
 pub members_by : {X : Type 0} (bit : X → ℕ) (test : X → Bool) (w : ℕ) (xs : List X) → AllByRecursion (λ x. has_bit w (bit x) ≡ test x) xs →
     members bit xs w ≡ filter test xs
 unfolding members
@@ -74,7 +74,7 @@ pub from_next : (w s : ℕ) → 1 ≤ s → s < 33 → stages_from w s ≡ cond 
 unfolding stages_from members
 from_next w s low high = let e : 33 - s ≡ suc (33 - (s + 1)) = omega arith in rw e refl
 
--- what is found first in a list that may begin with one more number
+-- the first element found in a list that may begin with one more number
 found : (has : Bool) (test : ℕ → Bool) (s : ℕ) (ss : List ℕ) → find test (cond has (s ∷ ss) ss) ≡ cond (test s && has) (Some s) (find test ss)
 found true test s ss = rw (and-true (test s)) refl
 found false test s ss = rw (and-false (test s)) refl
@@ -84,7 +84,7 @@ pub find_next : (w other s : ℕ) → 1 ≤ s → s < 33 → find (nat_lt other)
     (find (nat_lt other) (stages_from w (s + 1)))
 find_next w other s low high = let e = from_next w s low high in rw e (found (has_bit w (s - 1)) (nat_lt other) s (stages_from w (s + 1)))
 
--- the next is passed over where it is not above the number, or is no stage of the word
+-- the next one is skipped if it is not above the number or is not a stage of the word
 pub find_on : (w other s : ℕ) → 1 ≤ s → s < 33 → (nat_lt other s && has_bit w (s - 1)) ≡ false →
     find (nat_lt other) (stages_from w (s + 1)) ≡ find (nat_lt other) (stages_from w s)
 find_on w other s low high off = sym (rw off at (find_next w other s low high))
@@ -109,7 +109,7 @@ pub no_bits : (i : ℕ) → has_bit 0 i ≡ false
 unfolding has_bit
 no_bits i = let e : 0 / 2 ^ i % 2 ≡ 0 = bit_at-zero i in rw e refl
 
--- where the tests of bits from k on agree with other tests, the lists of what passes are the same
+-- if the tests of the bits from k on agree with other tests, they keep the same members
 stages_agree : (w : ℕ) (test : ℕ → Bool) (n k : ℕ) → ((i : ℕ) → i < k + n → has_bit w i ≡ test (i + 1)) →
     members bit_of (range_with_len (k + 1) n) w ≡ filter test (range_with_len (k + 1) n)
 unfolding members
@@ -120,7 +120,7 @@ stages_agree w test (suc n) k same =
     let h = same k (omega arith) in
     rw (e, h) (ap (λ (l : List ℕ). cond (test (k + 1)) ((k + 1) ∷ l) l) r)
 
--- the stages of a word by what is tested instead of the bits
+-- the stages of a word, given a test that agrees with the bits
 pub stages_by : (w n : ℕ) (stages : List ℤ) → length stages ≤ n → ((i : ℕ) → i < 32 → has_bit w i ≡ list_any (is_integer (i + 1)) (take n stages)) →
     stages_of_word w ≡ ascending stages
 unfolding ascending stage_numbers
@@ -135,7 +135,7 @@ class_bit w v class c new = let h = new (place_of c) in grind (arith, nat_tests,
 pub no_class_bit : (class c : Class) → 9 ≤ place_of class → place_of c < 9 → same_class c class ≡ false
 no_class_bit class c high low = grind (arith, nat_tests)
 
--- the classes of a word by what is tested instead of the bits
+-- the classes of a word, given a test that agrees with the bits
 classes_agree : (w : ℕ) (classes : List Class) → ((c : Class) → place_of c < 9 → has_bit w (place_of c) ≡ lists_class classes c) →
     classes_of_word w ≡ in_class_order classes
 unfolding in_class_order
@@ -153,7 +153,7 @@ classes_agree w classes same = members_by place_of (lists_class classes) w compu
   ),
 )
 
--- the same where all classes of the list have been gone through
+-- the same once all classes of the list were visited
 pub classes_by : (w n : ℕ) (classes : List Class) → length classes ≤ n →
     ((c : Class) → place_of c < 9 → has_bit w (place_of c) ≡ lists_class (take n classes) c) →
     classes_of_word w ≡ in_class_order classes
@@ -196,7 +196,7 @@ pub no_stages : stages_of_word 0 ≡ []
 unfolding members stage_numbers has_bit
 no_stages = refl
 
--- a list of stages is empty where its word is 0
+-- a list of stages is empty if its word is 0
 word_of_none : (stages : List ℕ) → length stages ≡ 0 → word_of_list bit_of stages ≡ 0
 unfolding word_of_list
 word_of_none [] none = refl

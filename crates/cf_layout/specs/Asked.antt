@@ -6,7 +6,7 @@ use Rattle.cf_layout.specs.declared.parts.Siding.{Siding}
 use Rattle.cf_layout.specs.declared.parts.Parts.{Parts}
 use Rattle.cf_layout.specs.Layout.{SidingPlan, Plan, computed_classes, same_class}
 
--- the number, or 0 where it is below 0
+-- the number, or 0 if it is below 0
 abbrev pub natural : ℤ → ℕ
 natural (pos n) = n
 natural (negsuc n) = 0
@@ -25,7 +25,7 @@ is_integer n (negsuc m) = false
 abbrev pub lists_class : List Class → Class → Bool
 lists_class classes c = list_any (same_class c) classes
 
--- the entry's stages, where there is an entry
+-- the entry's stages, if there is an entry
 abbrev pub stages_in : Option (Class × List ℤ) → List ℤ
 stages_in None = []
 stages_in (Some unit) = unit.1
@@ -72,7 +72,7 @@ is_unit units c = list_any (λ unit. same_class c unit.0) units
 abbrev pub is_sided : List Siding → Class → Bool
 is_sided sidings c = list_any (λ siding. lists_class siding.classes c) sidings
 
--- a class is in either
+-- a class is in a unit or in a siding
 unfoldable pub is_asked : Parts → Class → Bool
 is_asked parts c = is_unit parts.units c || is_sided parts.sidings c
 

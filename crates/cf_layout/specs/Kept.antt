@@ -27,7 +27,7 @@ unfolding word_of_list
 word_more bit x xs true = refl
 word_more bit x xs false = omega arith
 
--- where no bit is added, the bits below are unchanged
+-- if no bit is added, the bits below are unchanged
 nothing_more : (w k : ℕ) → 0 + w % 2 ^ k ≡ w % 2 ^ (0 + k)
 nothing_more w k = let e : 0 + k ≡ k = omega arith in rw e (omega arith)
 

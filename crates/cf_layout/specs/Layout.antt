@@ -60,7 +60,7 @@ serves siding c = list_any (same_class c) siding.classes
 unfoldable pub siding_of : Plan → Class → Option ℕ
 siding_of plan c = position (λ siding. serves siding c) plan.sidings
 
--- stands for a siding that does not exist
+-- the plan that is used for a siding that does not exist
 abbrev pub no_siding : SidingPlan
 no_siding = record { classes = []; launch = 0; recover = 0; cells = 0 }
 
@@ -85,7 +85,7 @@ abbrev pub unit_homes : List ℕ → ℕ
 unit_homes [] = 0
 unit_homes (stage ∷ stages) = 1
 
--- how many homes a class has: one where it has units, and one for each siding that it goes through
+-- how many homes a class has: one if it has units, and one for each siding that it goes through
 unfoldable pub homes : Plan → Class → ℕ
 homes plan c = unit_homes (stages_of plan c) + length (filter (λ siding. serves siding c) plan.sidings)
 
@@ -97,18 +97,19 @@ is_homed plan c = nat_lt 0 (homes plan c)
 unfoldable pub has_mul : Plan → Bool
 has_mul plan = is_homed plan Mul && is_homed plan Div
 
--- the recovery stage of a siding, or the last stage of the pipeline where there is no siding
+-- the recovery stage of a siding, or the last stage of the pipeline if there is no siding
 abbrev pub recovers_by : Plan → Option ℕ → ℕ
 recovers_by plan None = plan.stages
 recovers_by plan (Some k) = recover_stage plan k
 
--- the last of the stages, or the other number where there is none
+-- the last of the stages, or the other number if there is none
 abbrev pub last_of : List ℕ → ℕ → ℕ
 last_of [] other = other
 last_of (stage ∷ stages) other = last_of stages stage
 
--- the last stage at which an instruction of the class can still be computed: that of its last unit, or else the
--- recovery stage of its siding, or else the last of the pipeline; and the first for the class that needs no computing
+-- the last stage at which an instruction of the class can still be computed: that of its last unit, or otherwise the
+-- recovery stage of its siding, or otherwise the last of the pipeline; for the class that needs no computing it is the
+-- first
 unfoldable pub last_stage : Plan → Class → ℕ
 last_stage plan Serial = plan.stages
 last_stage plan Free = 1

@@ -3,7 +3,7 @@ use Rattle.std.specs.Prelude.{[], ◌∷◌, false}
 use Rattle.rv_inst.specs.declared.classes.Class.TheVariants.{Memory}
 use Rattle.cf_layout.specs.Layout.{SidingPlan, Plan}
 
--- loads and stores leave the pipeline at stage 4 and come back at stage 6; two of them can be under way
+-- loads and stores leave the pipeline at stage 4 and come back at stage 6; two of them can be in flight
 abbrev pub memory_siding : SidingPlan
 memory_siding = record { classes = Memory ∷ []; launch = 4; recover = 6; cells = 2 }
 

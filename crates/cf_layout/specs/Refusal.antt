@@ -10,7 +10,7 @@ use Rattle.cf_layout.specs.declared.refusal.LayoutErr.TheVariants.{StagesOutOfRa
 use Rattle.cf_layout.specs.Layout.{same_class}
 use Rattle.cf_layout.specs.Asked.{natural, is_integer_within, lists_class, is_unit, is_sided, is_asked, stages_listed, ascending}
 
--- the refusal where the test fails
+-- the refusal if the test fails
 abbrev pub unless : Bool → LayoutErr → Option LayoutErr
 unless holds e = if holds then None else Some e
 
@@ -97,7 +97,7 @@ missing_refusal parts =
 unfoldable pub siding_for : List Siding → Class → Option Siding
 siding_for sidings c = find (λ siding. lists_class siding.classes c) sidings
 
--- the stage from which the siding launches, where there is one
+-- the stage from which the siding launches, if there is one
 abbrev pub launch_in : Option Siding → ℕ
 launch_in None = 0
 launch_in (Some siding) = natural siding.launch
@@ -116,8 +116,8 @@ abbrev pub above : Class → ℕ → Option ℕ → Option LayoutErr
 above c launch None = None
 above c launch (Some stage) = Some (ControlAboveMemory c stage launch)
 
--- control turns nowhere above the stage from which loads and stores are launched, or else the lowest stage where it
--- does
+-- control turns nowhere above the stage from which loads and stores are launched, or otherwise the lowest stage where
+-- it does
 unfoldable pub turn_refusal : Parts → Class → Option LayoutErr
 turn_refusal parts c = above c (memory_launch_in parts.sidings) (find (nat_lt (memory_launch_in parts.sidings))
     (turns_in (ascending (stages_listed parts.units c)) (siding_for parts.sidings c)))
@@ -138,7 +138,7 @@ loose_refusal parts =
 unfoldable pub first_refusal : Parts → Option LayoutErr
 first_refusal parts = option_or (loose_refusal parts) (control_refusal parts)
 
--- the refusal, unless it is for where control turns
+-- the refusal, unless it is because of where control turns
 abbrev pub beside_control : Option LayoutErr → Option LayoutErr
 beside_control None = None
 beside_control (Some (ControlAboveMemory c stage launch)) = None

@@ -9,11 +9,11 @@ use Rattle.cf_layout.specs.Asked.{stage_numbers}
 unfoldable pub has_bit : ℕ → ℕ → Bool
 has_bit w i = nat_eq (w / 2 ^ i % 2) 1
 
--- those of the list whose bit the word has
+-- the elements of the list whose bit the word has
 unfoldable pub members : {X : Type 0} → (X → ℕ) → List X → ℕ → List X
 members bit xs w = filter (λ x. has_bit w (bit x)) xs
 
--- the word that has the bits of the list, whose bits differ
+-- the word that has the bits of the list, all of which differ
 unfoldable pub word_of_list : {X : Type 0} → (X → ℕ) → List X → ℕ
 word_of_list bit [] = 0
 word_of_list bit (x ∷ xs) = 2 ^ bit x + word_of_list bit xs

@@ -328,8 +328,8 @@ fn check_all(parts: &Parts) -> Result<(), LayoutErr>
     check_control(parts)
 }
 
-/// The layout that the parts describe, if they pass all tests but perhaps the last, or else the first test that they
-/// fail.
+/// The layout that the parts describe, if they pass all tests but perhaps the last, and otherwise the first test that
+/// they fail.
 fn lay_loosely(parts: &Parts) -> Result<LooseLayout, LayoutErr>
     requires { AreComputed parts.now }
     ensures ok { IfOk result (λ layout. layout ≡ plan_of parts.now) }
@@ -342,7 +342,7 @@ fn lay_loosely(parts: &Parts) -> Result<LooseLayout, LayoutErr>
     }
 }
 
-/// The layout that the parts describe, if they pass the tests, or else the first test that they fail.
+/// The layout that the parts describe, if they pass the tests, and otherwise the first test that they fail.
 fn lay_out(parts: &Parts) -> Result<Layout, LayoutErr>
     requires { AreComputed parts.now }
     ensures ok { IfOk result (λ layout. layout ≡ plan_of parts.now) }
@@ -355,11 +355,11 @@ fn lay_out(parts: &Parts) -> Result<Layout, LayoutErr>
     }
 }
 
-/// The layout that the parts describe, if it meets every rule but, perhaps, the one on where control turns, or else the
-/// first test that the parts fail.
+/// The layout that the parts describe, if it meets every rule except, perhaps, the one on where control turns, and
+/// otherwise the first test that the parts fail.
 ///
-/// It refuses as `check` does, but never for where control turns: that is the last of the tests. Each entry must name a
-/// class that units or sidings compute.
+/// It refuses as `check` does, but never because of where control turns: that is the last of the tests. Each entry must
+/// name a class that units or sidings compute.
 pub fn check_loosely(parts: &Parts) -> Result<LooseLayout, LayoutErr>
     requires { AreComputed parts.now }
     ensures ok { IfOk result (λ layout. layout ≡ plan_of parts.now) }
@@ -372,7 +372,7 @@ pub fn check_loosely(parts: &Parts) -> Result<LooseLayout, LayoutErr>
     lay_loosely(parts)
 }
 
-/// The layout that the parts describe, if that is accepted, or else the first test that they fail.
+/// The layout that the parts describe, if it is accepted, and otherwise the first test that they fail.
 ///
 /// The tests are, in this order: the number of stages, of entries in the lane and of sidings; each unit; each siding;
 /// that no class is missing; and that control turns at or below the stage from which loads and stores are launched.

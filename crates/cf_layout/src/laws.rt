@@ -7,7 +7,7 @@ ghost use Rattle.cf_layout.specs.Accepted.{IsEquipped, IsAccepted};
 ghost use Rattle.cf_layout.specs.Acceptable.{AreComputed, AreEquipped, IsAcceptable};
 ghost use Rattle.cf_layout.specs.Refusal.{loose_refusal, first_refusal, beside_control};
 
-/// The tests in their order refuse exactly the parts that are not acceptable.
+/// The tests, in their order, refuse the parts if and only if these are not acceptable.
 #[tactic(auto, using(crate::proofs::Acceptance::acceptable, crate::proofs::Unrefused::not_refused))]
 pub fn refused_unless_acceptable()
     ensures acceptable { (parts : Asked) → first_refusal parts ≡ None → IsAcceptable parts }
@@ -26,7 +26,7 @@ pub fn equipped_describe_equipped()
     ensures { (parts : Asked) → AreComputed parts → AreEquipped parts → IsEquipped (plan_of parts) }
 {}
 
-/// The tests before the last refuse as all tests do, unless that is for where control turns.
+/// The tests before the last refuse as all tests do, unless that is because of where control turns.
 #[tactic(auto, using(crate::proofs::Beside::loosely))]
 pub fn refused_loosely()
     ensures { (parts : Asked) → loose_refusal parts ≡ beside_control (first_refusal parts) }

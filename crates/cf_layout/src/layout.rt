@@ -30,7 +30,7 @@ impl Model for Layout {
 }
 
 impl Layout {
-    /// The same layout, as one that meets every rule but, perhaps, the one on where control turns.
+    /// The same layout, as one that meets every rule except, perhaps, the one on where control turns.
     #[inline(always)]
     pub fn loose(&self) -> &LooseLayout
         ensures { result.now ≡ self.now }

@@ -4,7 +4,7 @@ ghost use Rattle.std.specs.Prelude.{◌≡◌};
 
 use std::marker::Model;
 
-/// A list in the parts of a layout: made from a `Vec`, which it lends.
+/// A list in the parts of a layout: made from a `Vec`, which callers can borrow.
 #[derive(Drop)]
 pub struct Listed<T: Drop> {
     items: Vec<T>,

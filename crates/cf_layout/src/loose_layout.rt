@@ -1,4 +1,4 @@
-//! A layout that meets every rule but, perhaps, the one on where control turns.
+//! A layout that meets every rule except, perhaps, the one on where control turns.
 
 ghost use Rattle.std.specs.Prelude.{◌≡◌, ◌↔◌, IsTrue, ◌<◌, ◌≤◌, true, All, IfOk, IfSome, None, length};
 ghost use Rattle.cf_layout.specs.Asked.{is_integer_within, IsSmallSiding, plan_of};
@@ -17,8 +17,8 @@ use rv_inst::Class;
 use std::alloc::{AllocError, Global};
 use std::marker::Model;
 
-/// A layout that meets every rule but, perhaps, the one on where control turns: a branch or a jump may turn it above the
-/// stage from which loads and stores are launched.
+/// A layout that meets every rule except, perhaps, the one on where control turns: a branch or a jump may turn it above
+/// the stage from which loads and stores are launched.
 #[derive(Clone, Copy)]
 pub struct LooseLayout {
     stages: u32,
@@ -231,7 +231,7 @@ impl LooseLayout {
         self.last_before(class, self.stages)
     }
 
-    /// The recovery stage of the class's siding, and the last stage of the pipeline where it has none.
+    /// The recovery stage of the class's siding, or the last stage of the pipeline if it has none.
     #[inline(always)]
     fn recovers_by(&self, class: Class) -> u32
         ensures { result ≡ recovers_by self.now (siding_of self.now class) }

@@ -28,7 +28,7 @@ pub enum LayoutErr {
     /// The class turns control at the first of these stages; loads and stores are launched from the second, which is
     /// lower.
     ControlAboveMemory(Class, u32, u32),
-    /// There are more than 8 sidings: their number, capped at the greatest number of 32 bits.
+    /// There are more than 8 sidings: their number, capped at the maximum `u32`.
     TooManySidings(u32),
     /// The siding at this index has no class.
     EmptySiding(u32),

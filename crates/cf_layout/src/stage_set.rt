@@ -119,7 +119,7 @@ impl StageSet {
         None
     }
 
-    /// The highest stage of the set, or the other stage where the set is empty.
+    /// The highest stage of the set, or the other stage if the set is empty.
     #[inline(always)]
     #[tactic(auto, using(crate::proofs::Highest::last_of_some, crate::proofs::Highest::last_of_none))]
     pub(crate) fn last_or(self, other: u32) -> u32

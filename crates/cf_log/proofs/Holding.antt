@@ -1,4 +1,4 @@
--- Bytes that are held: moved to the beginning, followed by what is taken, and cut into lines.
+-- The bytes that are held: they are moved to the beginning, followed by what is taken, and cut into lines.
 use Rattle.std.proofs.Common.{◌≡◌, ◌≢◌, ℕ, suc, ◌+◌, ◌-◌, ◌<◌, ◌≤◌, List, [], ◌∷◌, ◌++◌, All, length, get_or, take, drop, Option, Some, None, Bool, true, false, refl, sym, ap, subst, ◌∙◌, append-nil, append_assoc, inl, inr, arith}
 use Rattle.std.specs.Prelude.{◌==◌, Result, Ok, Err, IfOk}
 use Rattle.std.specs.List.{position_or_len, copy_within}
@@ -47,7 +47,7 @@ pub fills : (before after : Option (List ℕ)) (had have new : List ℕ) (count 
 fills before after had have new count within is told =
     (take count new, gives before after new count told, is, grind (arith, common_steps, within))
 
--- the same of the bytes that one take puts behind others
+-- the same for the bytes that one take puts after others
 pub taken-at : {E : Type 0} (before after : Option (List ℕ)) (held piece : List ℕ) (place size : ℕ) (result : Result ℕ E) → length held ≡ size → place < size
     → length piece ≡ length (take (size - place) (drop place held)) → TakesBytes before after (take (size - place) (drop place held)) piece result
     → IfOk result (λ count. FillsHeld before after (take place held) (take (place + count) (put_mid place (size - place) held piece)) count)
@@ -66,7 +66,7 @@ taken-at before after held piece place size (Err failed) whole low same t = tt
 
 -- Pieces --
 
--- no byte before the first line feed is one
+-- no byte before the first line feed is a line feed
 pub before-feed : (bytes : List ℕ) (size : ℕ) → size ≡ position_or_len (λ b. b == 10) bytes → (k d : ℕ) → k < size → get_or bytes k d ≡ 10 → ⊥
 before-feed bytes size is k d low here =
     let low' : k < position_or_len (λ b. b == 10) bytes = omega (arith, is, low) in
@@ -76,13 +76,13 @@ before-feed bytes size is k d low here =
 pub is-piece : (own bytes : List ℕ) (size : ℕ) → bytes ≡ own → size ≡ position_or_len (λ b. b == 10) bytes → size ≡ length bytes → IsLogPiece own
 is-piece own bytes size same is whole = subst IsLogPiece same (λ k d low here. before-feed bytes size is k d (omega (arith, whole, low)) here)
 
--- what stands before the first line feed
+-- what is before the first line feed
 pub first-piece : (bytes : List ℕ) (size : ℕ) → size ≡ position_or_len (λ b. b == 10) bytes → size ≤ length bytes → IsLogPiece (take size bytes)
 first-piece bytes size is within k d low here =
     let below : k < size = grind (arith, common_steps, low, within) in
     before-feed bytes size is k d below (sym (get_or-take size bytes k d below) ∙ here)
 
--- after it come the line feed and the rest
+-- it is followed by the line feed and the rest
 feed_at : (bytes : List ℕ) (size : ℕ) → size ≡ position_or_len (λ b. b == 10) bytes → size < length bytes → get_or bytes size 0 ≡ 10
 feed_at bytes size is low =
     let low' : position_or_len (λ b. b == 10) bytes < length bytes = omega (arith, is, low) in
@@ -112,7 +112,7 @@ is-cut own bytes size line new same is low within cut line_is rest_is = record {
 
 -- What is taken for one line --
 
--- these bytes are held, and some of them were taken since, because no line feed was among those before
+-- these bytes are held; some of them were taken since then, because no line feed was among those before
 pub record Takes (before after : Option (List ℕ)) (had have : List ℕ) : Type 0 where
   pub taken : List ℕ
   pub takes : TakesOn before after had taken
@@ -151,7 +151,7 @@ takes-more a b c had have more count t piece (taken, gives, is, size) = record {
 
 -- Lines --
 
--- what stands after the line is part of what was held
+-- what follows the line is part of what was held
 cut-size : (bytes : List ℕ) (new : LogFeeding) → IsCut bytes new → length new.rest < length bytes
 cut-size bytes new cut = omega (arith, ap length cut.parts, length-append cut.piece (10 ∷ new.rest))
 

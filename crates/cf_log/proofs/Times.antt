@@ -6,7 +6,7 @@ use Rattle.std.proofs.lemmas.Int.Digits.{digits_value_more, digits_more}
 use Rattle.std.proofs.lemmas.Grind.{common_steps}
 use Rattle.rv_text.proofs.Numerals.{digits_value_below}
 
--- one more digit of at most 18
+-- one more digit, of at most 18
 pub next_fits : (i : ℕ) (ds : List ℕ) → i < length ds → AllDigits 10 (take i ds) → digit_value (get_or ds i 0) < 10 → length ds ≤ 18 →
     digits_value 10 (take i ds) * 10 + digit_value (get_or ds i 0) < 10 ^ 18
 next_fits i ds inside all digit short =

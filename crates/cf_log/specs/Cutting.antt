@@ -22,14 +22,15 @@ unfoldable pub ended : List (List ℕ) → List ℕ
 ended [] = []
 ended (piece ∷ pieces) = piece ++ 10 ∷ ended pieces
 
--- the bytes are these lines, each ended by a line feed, before which one carriage return is dropped, and then the rest
+-- the bytes are these lines, each ended by a line feed, before which one carriage return is dropped; the rest follows
+-- them
 pub record HasLogLines (bytes : List ℕ) (lines : List (List ℕ)) (rest : List ℕ) : Type 0 where
   pub pieces : List (List ℕ)
   pub are_pieces : All IsLogPiece pieces
   pub bytes_are : bytes ≡ ended pieces ++ rest
   pub lines_are : lines ≡ map without_return pieces
 
--- the latest line, and the bytes after it that were taken and are not used yet
+-- the latest line, and the bytes after it that were taken and are not yet used
 pub record LogFeeding : Type 0 where
   pub line : List ℕ
   pub rest : List ℕ
@@ -41,7 +42,7 @@ pub record IsCut (bytes : List ℕ) (new : LogFeeding) : Type 0 where
   pub parts : bytes ≡ piece ++ 10 ∷ new.rest
   pub line : new.line ≡ without_return piece
 
--- this many bytes of the log were taken, and stand after those that were there
+-- this many bytes of the log were taken, and follow those that were there
 abbrev pub FillsHeld : (before after : Option (List ℕ)) → (had have : List ℕ) → ℕ → Type 0
 FillsHeld before after had have count =
     (taken : List ℕ) × GivesInput before after taken × (have ≡ had ++ taken) × (count ≡ length taken)
@@ -52,12 +53,12 @@ FinishesLog rest new Last = (0 < length rest) × (new.line ≡ rest) × (new.res
 FinishesLog rest new AtEnd = (rest ≡ []) × (new.rest ≡ [])
 FinishesLog rest new next = ⊥
 
--- these bytes were taken after those that were not used yet, and only if no line feed was among those
+-- these bytes were taken after those that were not yet used, and only if no line feed was among those
 abbrev pub TakesOn : (before after : Option (List ℕ)) → (rest taken : List ℕ) → Type 0
 TakesOn before after rest taken = GivesInput before after taken × ((taken ≡ []) ⊎ IsLogPiece rest)
 
--- what comes next in the log: a line that is ended; the unfinished one at the end of the log; an unfinished one that is too long;
--- nothing, at the end; or a take failed, and no line is ended
+-- what comes next in the log: a line that is ended; the unfinished line at the end of the log; an unfinished line that
+-- is too long; nothing, at the end; or a take failed, and no line is ended
 unfoldable pub FeedsLog : (before after : Option (List ℕ)) → (now new : LogFeeding) → NextLine → Type 0
 FeedsLog before after now new Line =
     (taken : List ℕ) × TakesOn before after now.rest taken × IsCut (now.rest ++ taken) new × (length new.rest < most_held)

@@ -1,5 +1,5 @@
--- What a line of a log says (a format of this project): a move that a circuit makes, or an observation of it, after a time if
--- there is one.
+-- What a line of a log says (a format of this project): a move that a circuit makes, or an observation of it, after the
+-- time if there is one.
 use Rattle.std.specs.Prelude.{ℕ, ◌||◌, not, Bool, List, drop, take, length, Option, Some, None, Result, Ok, Err, codes, decimal, nat_eq, nat_lt, if◌then◌else◌}
 use Rattle.std.specs.List.{starts_with}
 use Rattle.std.specs.Str.{bytes_eq}
@@ -20,26 +20,26 @@ use Rattle.cf_log.specs.declared.said.ObservedPart.{ObservedPart}
 use Rattle.cf_log.specs.declared.said.ObservedPart.TheVariants.{Retire, Fetch, Lane, Cache, Stage, Siding, Register, Ended}
 use Rattle.cf_log.specs.declared.said.TimedLine.{TimedLine}
 
--- how many bytes a line has at most
+-- the maximum number of bytes in a line
 abbrev pub longest_line : ℕ
 longest_line = 512
 
 -- Times --
 
--- a word that is meant as a time
+-- the word begins as a time does
 unfoldable pub is_timed : List ℕ → Bool
 is_timed word = starts_with nat_eq word (codes "@")
 
--- a time that is not earlier than another
+-- the time, if it is not earlier than another
 abbrev pub no_earlier : ℕ → Option ℕ → Result ℕ LogKind
 no_earlier earlier None = Err BadTime
 no_earlier earlier (Some time) = if nat_lt time earlier then Err BadTime else Ok time
 
--- the time that a word tells after its first byte, in from one to 18 decimal digits
+-- the time that a word gives after its first byte, in 1 to 18 decimal digits
 unfoldable pub time_told : ℕ → List ℕ → Result ℕ LogKind
 time_told earlier word = no_earlier earlier (numeral 10 18 (drop 1 word))
 
--- the latest time up to and with a line
+-- the latest time up to and including a line
 unfoldable pub time_read : ℕ → List ℕ → Result ℕ LogKind
 time_read earlier line = if is_timed (name_part line) then time_told earlier (name_part line) else Ok earlier
 
@@ -49,7 +49,7 @@ after_time line = if is_timed (name_part line) then operand_part line else line
 
 -- Observations --
 
--- the number that the first word spells in decimal, without leading zeros
+-- the number that the first word gives in decimal, without leading zeros
 abbrev pub as_written : List ℕ → Option ℕ → Option ℕ
 as_written word None = None
 as_written word (Some number) = if bytes_eq (decimal number) word then Some number else None
@@ -57,7 +57,7 @@ as_written word (Some number) = if bytes_eq (decimal number) word then Some numb
 unfoldable pub move_number_in : List ℕ → Option ℕ
 move_number_in text = as_written (name_part text) (numeral 10 9 (name_part text))
 
--- a number of a register
+-- the number, if it is that of a register
 abbrev pub within_file : Option ℕ → Option ℕ
 within_file None = None
 within_file (Some register) = if nat_lt register 32 then Some register else None
@@ -73,7 +73,7 @@ abbrev pub of_register : Option ℕ → Option ObservedPart
 of_register None = None
 of_register (Some register) = Some (Register register)
 
--- what an observation is of that begins with this word, followed by these
+-- what an observation is about that begins with this word, followed by these
 unfoldable pub subject_named : List ℕ → List ℕ → Option ObservedPart
 subject_named word after =
     if bytes_eq word (codes "retire") then Some Retire
@@ -91,7 +91,7 @@ subject_in text = subject_named (name_part text) (operand_part text)
 
 -- Moves --
 
--- what words say that give this as a line of a script
+-- what words say that are read in this way as a line of a script
 abbrev pub move_said : Result Move ScriptKind → Result Said LogKind
 move_said (Ok mv) = Ok (Makes mv)
 move_said (Err script.UnknownMove) = Err UnknownLine
@@ -99,7 +99,7 @@ move_said (Err script.BadNumber) = Err BadNumber
 move_said (Err script.ExtraWords) = Err ExtraWords
 move_said (Err script.NotAscii) = Err NotAscii
 
--- what words say after the number of a move that give this as a line of a script
+-- what the words after the number of a move say, if they are read in this way as a line of a script
 abbrev pub numbered_told : Result Move ScriptKind → Result Said LogKind
 numbered_told (Ok mv) = Ok (Makes mv)
 numbered_told (Err script.ExtraWords) = Err ExtraWords
@@ -107,12 +107,12 @@ numbered_told (Err script.UnknownMove) = Err BadNumber
 numbered_told (Err script.BadNumber) = Err BadNumber
 numbered_told (Err script.NotAscii) = Err BadNumber
 
--- what stands after `move`: the number of the next move, without leading zeros, and a move
+-- what follows `move`: the number of the next move, without leading zeros, and a move
 unfoldable pub numbered_said : ℕ → List ℕ → Result Said LogKind
 numbered_said next text =
     if bytes_eq (decimal next) (name_part text) then numbered_told (move_in (operand_part text)) else Err BadNumber
 
--- an observation, or else a move
+-- an observation, or otherwise a move
 abbrev pub observed_or : Option ObservedPart → Result Said LogKind → Result Said LogKind
 observed_or (Some subject) other = Ok (Observes subject)
 observed_or None other = other
@@ -131,8 +131,8 @@ said_in next text =
 abbrev pub line_with_time : ℕ → Said → TimedLine
 line_with_time time said = record { time = time; said = said }
 
--- what a line says, if it says something, or the first refusal, where this is the latest time before it and the next move has
--- this number
+-- what a line says, if it says something, or the first refusal: `earlier` is the latest time before it, and `next` the
+-- number of the next move
 unfoldable pub log_line_read : (earlier next : ℕ) → List ℕ → Result (Option TimedLine) LogKind
 log_line_read earlier next line =
     if nat_lt longest_line (length line) then Err TooLong

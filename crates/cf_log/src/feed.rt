@@ -36,7 +36,7 @@ pub enum NextLine {
     Fault,
 }
 
-/// The latest line of a log, and the bytes after it that were taken and are not used yet.
+/// The latest line of a log, and the bytes after it that were taken and are not yet used.
 #[derive(Drop)]
 pub struct LogFeed {
     held: [u8; ROOM],
@@ -57,7 +57,7 @@ impl Model for LogFeed {
     ghost invariant = { λ feed. (feed.line_from ≤ feed.line_to) × (feed.line_to ≤ 8192) × (feed.at ≤ feed.end) × (feed.end ≤ 8192) };
 }
 
-/// How many bytes of a line stand before its line feed, or before the carriage return in front of it.
+/// How many bytes of a line come before its line feed, or before the carriage return that precedes it.
 #[tactic(auto, unfolding(rv_text::specs::Lines::without_return))]
 fn size_of_line(piece: &[u8]) -> usize
     ensures line { take result piece.now ≡ without_return piece.now }
@@ -113,7 +113,7 @@ impl LogFeed {
         &self.held[self.line_from..self.line_to]
     }
 
-    /// The bytes that were taken and are not used yet.
+    /// The bytes that were taken and are not yet used.
     #[inline(always)]
     fn rest(&self) -> &[u8]
         ensures rest { result.now ≡ self.now.rest }
@@ -122,7 +122,7 @@ impl LogFeed {
         &self.held[self.at..self.end]
     }
 
-    /// Uses this many bytes and the line feed after them. The first of them are the line.
+    /// Uses this many bytes, which are the line, and the line feed after them.
     fn use_piece(&mut self, size: usize, line: usize)
         requires piece { size < length self.old.rest }
         requires line { line ≤ size }
@@ -161,7 +161,7 @@ impl LogFeed {
         true
     }
 
-    /// Takes bytes after the few that are not used yet, and returns how many.
+    /// Takes bytes after the few that are not yet used, and returns how many.
     fn fill<S: Source>(&mut self, log: &mut S) -> Result<usize, Failed>
         requires { length self.old.rest < 514 }
         ensures taken { IfOk result (λ count. FillsHeld (S.left log.old) (S.left log.new) self.old.rest self.new.rest count) }
@@ -197,8 +197,8 @@ impl LogFeed {
         }
     }
 
-    /// The next line of the log, or why there is none. Bytes are taken only if no line feed is among those not used yet. Each time
-    /// at least 4,096 are asked for.
+    /// The next line of the log, or why there is none. Bytes are taken only if no line feed is among those not yet
+    /// used. Each take asks for at least 4,096 bytes.
     pub fn next<S: Source>(&mut self, log: &mut S) -> NextLine
         ensures feeds { FeedsLog (S.left log.old) (S.left log.new) self.old self.new result }
         ensures cause { HasCause (S.faults log.old) (S.faults log.new) (log_fed result) }

@@ -1,4 +1,4 @@
-//! Why a line of a log is refused, and which.
+//! Why a line of a log is refused, and which line it is.
 
 use cf_bind::Bar;
 
@@ -11,13 +11,13 @@ pub enum LogKind {
     /// A byte is above 127.
     NotAscii,
 
-    /// The first word begins with `@` and is no time, or is earlier than the latest time before it.
+    /// The first word begins with `@` and is not a time, or is earlier than the latest time before it.
     BadTime,
 
-    /// The first word, after the time, begins no line of a log; or it is `issue` without a guess.
+    /// The first word after the time does not begin a line of a log; or it is `issue` without a guess.
     UnknownLine,
 
-    /// A number in a move is missing or misspelt, or the number of a move is not that of the next move.
+    /// A number in a move is missing or malformed, or the number of a move is not that of the next move.
     BadNumber,
 
     /// Words follow the move.
@@ -33,7 +33,7 @@ pub enum LogKind {
 /// The first line of a log that is refused, and why.
 #[derive(Clone, Copy)]
 pub struct LogErr {
-    /// The number of the line, from 1, up to the greatest `u32`.
+    /// The line number, counted from 1 and capped at the maximum `u32`.
     pub line: u32,
 
     /// Why it is refused.

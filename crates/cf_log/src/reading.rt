@@ -12,7 +12,7 @@ use run_scripts::{ScriptKind, is_skipped, read_move};
 use rv_text::split_name;
 use texts::is_ascii;
 
-/// How many bytes a line has at most.
+/// The maximum number of bytes in a line.
 const LONGEST_LINE: usize = 512;
 
 /// The move that the words are.
@@ -41,7 +41,7 @@ fn read_after_number(text: &[u8]) -> Result<Said, LogKind>
     }
 }
 
-/// What stands after `move`: the number of the next move, and a move.
+/// What follows `move`: the number of the next move, and a move.
 #[tactic(auto, unfolding(crate::specs::Lines::numbered_said))]
 fn read_numbered(text: &[u8], next: u64) -> Result<Said, LogKind>
     ensures { result ≡ numbered_said next text.now }
@@ -77,9 +77,9 @@ fn read_said(text: &[u8], next: u64) -> Result<Said, LogKind>
     }
 }
 
-/// What a line of a log says, or the first that holds of `TooLong`, `NotAscii`, `BadTime`, `UnknownLine`, `BadNumber` and
-/// `ExtraWords`. `earlier` is the latest time before it, and `next` is the number of the next move. A comment and a line without
-/// words say nothing, and are refused only if they are too long.
+/// What a line of a log says, or the first of `TooLong`, `NotAscii`, `BadTime`, `UnknownLine`, `BadNumber` and
+/// `ExtraWords` that holds. `earlier` is the latest time before it, and `next` is the number of the next move. A
+/// comment and a line without words say nothing, and are refused only if they are too long.
 #[tactic(auto, unfolding(crate::specs::Lines::log_line_read))]
 pub fn read_line(line: &[u8], earlier: u64, next: u64) -> Result<Option<TimedLine>, LogKind>
     ensures { result ≡ log_line_read earlier next line.now }

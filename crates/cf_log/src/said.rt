@@ -2,7 +2,7 @@
 
 use cf_bind::Move;
 
-/// What is observed. A stage or a siding is named by its number; there is none if the number is missing or misspelt.
+/// What is observed. A stage or a siding is named by its number, which is `None` if it is missing or malformed.
 #[derive(Clone, Copy)]
 pub enum ObservedPart {
     /// The instruction that retired last.

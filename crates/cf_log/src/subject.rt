@@ -16,7 +16,7 @@ pub(crate) fn is_decimal(word: &[u8], number: u64) -> bool
     buffer.format(number).as_bytes() == word
 }
 
-/// The number that the first word spells in decimal, without leading zeros.
+/// The number that the first word gives in decimal, without leading zeros.
 #[tactic(auto, unfolding(crate::specs::Lines::move_number_in))]
 fn number_in(text: &[u8]) -> Option<u32>
     ensures { result ≡ move_number_in text.now }
@@ -55,7 +55,7 @@ fn register_in(word: &[u8]) -> Option<u8>
     }
 }
 
-/// What an observation is of that begins with this word, followed by these.
+/// What an observation is about that begins with this word, followed by these.
 #[tactic(auto, unfolding(crate::specs::Lines::subject_named))]
 fn subject_named(word: &[u8], after: &[u8]) -> Option<ObservedPart>
     ensures { result ≡ subject_named word.now after.now }

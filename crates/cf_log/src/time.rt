@@ -7,10 +7,10 @@ ghost use Rattle.cf_log.specs.Lines.{after_time, is_timed, time_read, time_told}
 use crate::kind::LogKind;
 use rv_text::split_name;
 
-/// How many digits a time has at most.
+/// The maximum number of digits in a time.
 const MOST_DIGITS: usize = 18;
 
-/// The number that from one to 18 decimal digits spell.
+/// The number that 1 to 18 decimal digits give.
 #[tactic(auto, using(rv_text::proofs::Numerals::numerals), unfolding(rv_text::specs::Numbers::numeral, rv_text::specs::Numbers::is_numeral))]
 fn digits_of(digits: &[u8]) -> Option<u64>
     ensures { result ≡ numeral 10 18 digits.now }
@@ -26,7 +26,7 @@ fn digits_of(digits: &[u8]) -> Option<u64>
     Some(value)
 }
 
-/// Whether a word is meant as a time.
+/// Whether a word begins as a time does.
 #[tactic(auto, unfolding(crate::specs::Lines::is_timed))]
 fn is_timed(word: &[u8]) -> bool
     ensures { result ≡ is_timed word.now }
@@ -34,7 +34,7 @@ fn is_timed(word: &[u8]) -> bool
     word.starts_with(b"@")
 }
 
-/// The time that a word tells, if it is not earlier than this one.
+/// The time that a word gives, if it is not earlier than this one.
 #[tactic(auto, unfolding(crate::specs::Lines::time_told))]
 fn time_in(word: &[u8], earlier: u64) -> Result<u64, LogKind>
     ensures { result ≡ time_told earlier word.now }
@@ -52,7 +52,7 @@ fn time_in(word: &[u8], earlier: u64) -> Result<u64, LogKind>
     }
 }
 
-/// The latest time up to and with a line, if this was the latest before it.
+/// The latest time up to and including a line, if this was the latest before it.
 #[tactic(auto, unfolding(crate::specs::Lines::time_read))]
 pub(crate) fn time_of(line: &[u8], earlier: u64) -> Result<u64, LogKind>
     ensures { result ≡ time_read earlier line.now }

@@ -13,7 +13,7 @@ use Rattle.cf_layout.proofs.Reading.{stages_without}
 use Rattle.cf_layout.proofs.Facts.{siding_found, siding_rules}
 use Rattle.cf_semantics.specs.moves.Instructions.{is_memory}
 
--- at no stage is there a unit
+-- no stage has a unit
 no_unit : (stages : List ℕ) (i : ℕ) → stages ≡ [] → list_any (nat_eq i) stages ≡ true → ⊥
 no_unit [] i e h = cc
 no_unit (stage ∷ stages) i e h = cc
@@ -21,7 +21,7 @@ no_unit (stage ∷ stages) i e h = cc
 beyond : (plan : Plan) (n : ℕ) → length plan.units ≡ 9 → 9 ≤ n → length plan.units ≤ n
 beyond plan n e h = omega arith
 
--- what has a unit computes, in an equipped layout and so in an accepted one
+-- a class with a unit computes, in an equipped layout and so in an accepted one
 pub equipped-unit : (plan : Plan) (c : Class) (i : ℕ) → IsEquipped plan → unit_at plan c i ≡ true → IsTrue (computes c)
 unfolding unit_at
 equipped-unit plan Memory i a e = absurd (no_unit (stages_of plan Memory) i a.memory e)
@@ -48,7 +48,7 @@ computed Serial h e = absurd (omega arith)
 computed Free h e = absurd (omega arith)
 computed c h e = refl
 
--- what has a siding computes too, unless it loads or stores
+-- a class with a siding computes too, unless it loads or stores
 pub equipped-siding : (plan : Plan) (c : Class) (k : ℕ) → IsEquipped plan → siding_of plan c ≡ Some k → is_memory c ≡ false → IsTrue (computes c)
 unfolding serves
 equipped-siding plan c k a e m =

@@ -1,4 +1,4 @@
--- What is read off a word is an instruction of the set.
+-- What is read from a word is an instruction of the set.
 use Rattle.std.proofs.Common.{◌≡◌, ℕ, Option, Some, subst}
 use Rattle.std.specs.Prelude.{IfSome}
 use Rattle.rv_inst.specs.declared.instruction.Instr.{Instr}
@@ -10,7 +10,7 @@ use Rattle.rv_inst.proofs.Bounds.{decoded_fits, decoded_m_fits}
 use Rattle.rv_inst.proofs.Reading.{decoded-is_base}
 use Rattle.cf_passengers.specs.Facts.{IsInstruction}
 
--- a fact about an option's value, where the value is known
+-- a fact about the value of an option, if the value is known
 of_value : {A : Type 0} (o : Option A) (x : A) (P : A → Type 0) → IfSome o P → o ≡ Some x → P x
 of_value {A = A} o x P h e = let Q : Option A → Type 0 = λ u. IfSome u P in subst Q e h
 

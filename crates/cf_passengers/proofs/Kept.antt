@@ -66,7 +66,7 @@ unfolding fresh
 fresh-passenger isa cache (Got i) pc g h = passenger_as isa (kind_of i) cache i pc g h
 fresh-passenger isa cache (Bad e) pc g h = end-passenger isa None pc g e tt
 
--- Finish, and what else finishes an instruction --
+-- Finish, and the other ways to finish an instruction --
 
 binding-with_value : (v : ℕ) (b : Option Binding) → IfSome b IsBinding → IfSome (with_value v b) IsBinding
 binding-with_value v None h = tt
@@ -79,7 +79,7 @@ packet-of_value v (Some b) h = h
 pub trapped-passenger : (isa : Isa) (p : Passenger) (e : End) → IsPassenger isa p → IsPassenger isa (trapped p e)
 trapped-passenger isa p e h = record { instr = h.instr; ended = λ n. (refl, refl); src1 = h.src1; src2 = h.src2; dst = h.dst; owes = tt }
 
--- a choice keeps what both have
+-- what holds of both cases holds of the choice
 choice : {A : Type 0} (P : A → Type 0) (b : Bool) (x y : A) → P x → P y → P (if b then x else y)
 choice P true x y f g = f
 choice P false x y f g = g
@@ -121,7 +121,7 @@ answered-passenger isa p v h =
 pub quitting-passenger : (isa : Isa) (p : Passenger) (status : ℕ) → IsPassenger isa p → IsPassenger isa (record p { done = true; ending = Some (Exit status) })
 quitting-passenger isa p status h = record { instr = h.instr; ended = λ e. (refl, refl); src1 = h.src1; src2 = h.src2; dst = h.dst; owes = h.owes }
 
--- what an instruction sends, and what launches its operation, leave the rest of it
+-- the rest of an instruction is unchanged when it sends a result or launches its operation
 pub sent-passenger : (isa : Isa) (p : Passenger) → IsPassenger isa p → IsPassenger isa (record p { owes = None })
 sent-passenger isa p h = record { instr = h.instr; ended = h.ended; src1 = h.src1; src2 = h.src2; dst = h.dst; owes = tt }
 
@@ -184,7 +184,7 @@ instruction-in : (isa : Isa) (what : Option Instr) → IfSome what (IsInstructio
 instruction-in isa None h = record { fits = tt; base = λ e. refl }
 instruction-in isa (Some i) h = h
 
--- what stands for a missing instruction is one of each set
+-- the instruction that is used if there is none belongs to each set
 pub passenger-instruction : (isa : Isa) (p : Passenger) → IsPassenger isa p → IsInstruction isa (instruction p)
 passenger-instruction isa p h = instruction-in isa p.what h.instr
 

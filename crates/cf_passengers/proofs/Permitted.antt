@@ -22,14 +22,14 @@ is_memory-class : (c : Class) → is_memory c ≡ true → c ≡ Memory
 is_memory-class Memory e = refl
 is_memory-class c e = absurd (cc)
 
--- the operation is a load or a store where its Passenger is
+-- the operation is a load or a store if its Passenger is
 pub operation-memory : (p : Passenger) → is_memory (kind p) ≡ true → class_of (operation p).instr ≡ Memory
 operation-memory p e = rw (← kind-class p) (is_memory-class (kind p) e)
 
 chosen : (b : Bool) (o : Option End) → b ≡ true → (if b then o else None) ≡ None → o ≡ None
 chosen b o e h = cc
 
--- and memory permits it where there was no trap
+-- and memory permits it if there was no trap
 pub operation-permitted : (p : Passenger) (bounds : List Bounds) → is_memory (kind p) ≡ true → trap_at_launch p bounds ≡ None →
     access_trap (operation p).instr (operation p).pc (operation p).a bounds ≡ None
 operation-permitted p bounds e h = chosen (is_memory (kind p)) (access_trap (instruction p) p.pc (value_in p.src1) bounds) e h

@@ -9,7 +9,7 @@ use Rattle.cf_semantics.specs.moves.Instructions.{register, src1_of, src2_of, ds
 use Rattle.cf_semantics.specs.state.Passengers.{source, destination}
 use Rattle.cf_passengers.specs.Facts.{IsBinding}
 
--- they are below 32 where the fields are in range
+-- they are below 32 if the fields are in range
 pub src1-register : (i : Instr) → Fits i → (sources_of i).0 < 32
 src1-register (Lui rd imm) h = omega arith
 src1-register (Auipc rd imm) h = omega arith

@@ -28,7 +28,7 @@ IsPacket (Value r v) = IsWritable r
 IsPacket (Turn pc) = Unit {0}
 IsPacket Halt = Unit {0}
 
--- an instruction of the set: its fields are in range, and it is of the M extension only where the set has that
+-- an instruction of the set: its fields are in range, and it is of the M extension only if the set has that
 pub record IsInstruction (isa : Isa) (i : Instr) : Type 0 where
   pub fits : Fits i
   pub base : isa ≡ Rv32i → IsTrue (is_base i)
@@ -46,7 +46,7 @@ IsOperation isa op = IsInstruction isa op.instr
 pub record IsPassenger (isa : Isa) (p : Passenger) : Type 0 where
   -- its instruction, if it has one, is one of the set
   pub instr : IfSome p.what (IsInstruction isa)
-  -- where it has none, it is done and ends the program
+  -- if it has none, it is done and ends the program
   pub ended : p.what ≡ None → (p.done ≡ true) × IsSome p.ending
   -- its sources, its destination and what it owes are for registers other than x0
   pub src1 : IfSome p.src1 IsBinding

@@ -9,7 +9,7 @@ use Rattle.cf_passengers.specs.declared.asking.RequestedSources.{RequestedSource
 abbrev pub first_unknown : Passenger → Option ℕ
 first_unknown p = on (missing p.src1) (missing p.src2) Some
 
--- the value as a list, empty where there is none
+-- the value as a list, which is empty if there is none
 abbrev pub listed_one : Option ℕ → List ℕ
 listed_one None = []
 listed_one (Some r) = r ∷ []

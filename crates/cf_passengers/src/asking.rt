@@ -29,7 +29,7 @@ impl RequestedSources {
     }
 }
 
-/// The registers of the sources without a value, each once, that of the first source first.
+/// The registers of the sources without a value, each once, beginning with that of the first source.
 #[inline(always)]
 pub fn requests(p: &Passenger) -> RequestedSources
     ensures requests { listed result ≡ requested p.now }

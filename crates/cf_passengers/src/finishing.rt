@@ -69,7 +69,7 @@ fn value_of(destination: Option<Binding>, value: u32) -> Option<Packet>
     }
 }
 
-/// The finished instruction: it has the value, and the program goes on at `next`. It owes a turn where the guess was
+/// The finished instruction: it has the value, and the program goes on at `next`. It owes a turn if the guess was
 /// another address, and otherwise its value.
 #[inline(always)]
 fn finished(p: Passenger, next: u32, value: u32) -> Passenger

@@ -48,7 +48,7 @@ fn target(i: Instr, pc: u32) -> u32
     }
 }
 
-/// The address that the guess names after the instruction at `pc`; `None` where fetch waits.
+/// The address that the guess names after the instruction at `pc`; `None` if fetch waits.
 #[inline(always)]
 pub fn guessed(guess: Guess, i: Instr, pc: u32) -> Option<u32>
     ensures { result ≡ place_guessed guess i pc }
@@ -75,9 +75,9 @@ pub fn may_guess(guess: Guess, p: &Passenger) -> bool
     }
 }
 
-/// The address at which the program goes on after the instruction: its next address where it is done, and otherwise the
-/// guessed one. It is `None` where the instruction ends the program, after ECALL and FENCE.I until they are done, and
-/// where fetch waits.
+/// The address at which the program goes on after the instruction: its next address if it is done, and otherwise the
+/// guessed one. It is `None` if the instruction ends the program, after ECALL and FENCE.I until they are done, and if
+/// fetch waits.
 #[inline(always)]
 pub fn goto(p: &Passenger) -> Option<u32>
     ensures { result ≡ goes_to p.now }

@@ -17,7 +17,7 @@ use cf_layout::Layout;
 use mem_regions::Regions;
 use rv_inst::{Class, Instr, Isa, class_of, decode_as, dest, sources};
 
-/// The instruction set of a processor with this layout: with the M extension where the layout computes it.
+/// The instruction set of a processor with this layout: with the M extension if the layout computes it.
 #[inline(always)]
 pub fn isa_of(layout: &Layout) -> Isa
     ensures { result ≡ set_of layout.now }
@@ -25,8 +25,8 @@ pub fn isa_of(layout: &Layout) -> Isa
     loose::isa_of(layout.loose())
 }
 
-/// The instruction of the set at the address, or the trap of that address: cause 0 where 4 does not divide it, 1 where
-/// no word can be fetched there, and 2 where the word stands for no instruction.
+/// The instruction of the set at the address, or the trap of that address: cause 0 if 4 does not divide it, 1 if no
+/// word can be fetched there, and 2 if the word is not an instruction.
 #[inline(always)]
 #[tactic(auto, using(crate::proofs::Decoded::decoding), unfolding(cf_semantics::specs::moves::Instructions::fetched))]
 pub fn fetched(isa: Isa, mem: &Regions, pc: u32) -> Result<Instr, End>
@@ -127,7 +127,7 @@ fn blank(what: Option<Instr>, pc: u32, guess: Guess) -> Passenger
     }
 }
 
-/// An instruction that ends the program where it is issued.
+/// An instruction that ends the program when it is issued.
 #[inline(always)]
 #[tactic(auto, using(crate::proofs::Kept::issuing))]
 fn ended(what: Option<Instr>, pc: u32, guess: Guess, end: End) -> Passenger

@@ -27,8 +27,8 @@ pub fn operation(p: &Passenger) -> Op
     }
 }
 
-/// The trap of a load or a store that memory does not permit: cause 4 or 6 where the width does not divide the address,
-/// and 5 or 7 where the bytes do not lie in a region that permits it, the lower for a load and the higher for a store.
+/// The trap of a load or a store that memory does not permit: cause 4 or 6 if the width does not divide the address,
+/// and 5 or 7 if the bytes do not lie in a region that permits it, the lower for a load and the higher for a store.
 /// Other instructions have no such trap.
 #[inline(always)]
 #[tactic(auto, unfolding(cf_semantics::specs::moves::Instructions::access_trap, cf_semantics::specs::moves::Instructions::kind_of))]

@@ -1,5 +1,5 @@
-//! Where an instruction stops on its way up, and of which set it is, also in a layout that breaks the rule on where
-//! control turns.
+//! Where an instruction stops on its way up, and to which set it belongs, even in a layout that breaks the rule on
+//! where control turns.
 
 ghost use Rattle.std.specs.Prelude.{◌≡◌};
 ghost use Rattle.cf_semantics.specs.state.Layouts.{isa_of as set_of, launches as launches_at, recovers as recovers_at, ends_units as ends_units_at};
@@ -10,7 +10,7 @@ use cf_bind::Passenger;
 use cf_layout::LooseLayout;
 use rv_inst::{Class, Isa};
 
-/// The instruction set of a processor with this layout: with the M extension where the layout computes it.
+/// The instruction set of a processor with this layout: with the M extension if the layout computes it.
 #[inline(always)]
 pub fn isa_of(layout: &LooseLayout) -> Isa
     ensures { result ≡ set_of layout.now }

@@ -19,7 +19,7 @@ pub fn instruction(p: &Passenger) -> Instr
     }
 }
 
-/// The class of the instruction; `Free` where there is none.
+/// The class of the instruction; `Free` if there is none.
 #[inline(always)]
 #[tactic(auto, unfolding(cf_semantics::specs::moves::Instructions::kind_of))]
 pub fn kind(p: &Passenger) -> Class
@@ -50,7 +50,7 @@ pub fn first_missing(p: &Passenger) -> Option<u8>
     missing(p.src1).or(missing(p.src2))
 }
 
-/// The value of a source; 0 where there is no source or no value.
+/// The value of a source; 0 if there is no source or no value.
 #[inline(always)]
 pub fn value_in(source: Option<Binding>) -> u32
     ensures { result ≡ value_held source }

@@ -11,7 +11,7 @@ use cf_semantics::Event;
 use rv_inst::encode;
 use rv_machine::Retired;
 
-/// The register of a destination, 0 where there is none.
+/// The register of a destination, or 0 if there is none.
 #[inline(always)]
 fn register_in(destination: Option<Binding>) -> u8
     ensures { result ≡ register_told destination }
@@ -36,8 +36,8 @@ pub fn retirement(p: &Passenger) -> Retired
     }
 }
 
-/// The event of an instruction that leaves at the top: a live one ends the program or retires, and a dead one shows
-/// nothing. The fields of the instruction are in range.
+/// The event of an instruction that leaves at the top: a live instruction ends the program or retires, and a dead
+/// instruction shows nothing. The fields of the instruction are in range.
 #[inline(always)]
 pub fn leaving(p: &Passenger) -> Event
     requires { IfSome p.now.what (λ i. Fits i) }

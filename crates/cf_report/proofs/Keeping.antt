@@ -1,4 +1,4 @@
--- What stays of the bytes that are gathered, while they are put to the sink behind and while more are gathered.
+-- What happens to the gathered bytes while they are written to the next sink and while more are gathered.
 use Rattle.std.proofs.Common.{◌≡◌, ℕ, ◌+◌, ◌-◌, ◌≤◌, ◌<◌, List, [], ◌++◌, take, drop, length, min, Bool, Option, Some, None, Result, Ok, Err, append-nil, ap, refl, sym, subst, ◌∙◌, append_assoc, take-append-drop, drop-drop, length-drop, length-take-le, arith}
 use Rattle.std.proofs.lemmas.List.{drop-append-le}
 use Rattle.std.proofs.lemmas.Slice.{take-put_mid}
@@ -6,7 +6,7 @@ use borrow.Rule.Slice.PartMut.{put_mid}
 use Rattle.cf_io.specs.Puts.{Puts, Writes, WritesNothing}
 use Rattle.cf_report.specs.Gathering.{Gathering, followed_by, written_by}
 
--- the bytes from this one on are still kept, all that was put is unchanged, as is the count of faults
+-- the bytes from this one on are still kept; all that was written is unchanged, and so is the count of faults
 pub record IsPassing (written after : Option (List ℕ)) (bytes : List ℕ) (start done before now : ℕ) : Type 0 where
   pub within : done ≤ length bytes
   pub same : WritesNothing (followed_by written (drop start bytes)) (followed_by after (drop done bytes))
@@ -16,7 +16,7 @@ pub nothing-same : (told : Option (List ℕ)) → WritesNothing told told
 nothing-same None = tt
 nothing-same (Some told) = refl
 
--- some bytes got on
+-- the sink took some bytes
 passes-more : (a b c : Option (List ℕ)) (bytes : List ℕ) (start done n : ℕ) →
     WritesNothing (followed_by a (drop start bytes)) (followed_by b (drop done bytes)) → Writes b c (take n (drop done bytes)) →
     WritesNothing (followed_by a (drop start bytes)) (followed_by c (drop (done + n) bytes))
@@ -37,7 +37,7 @@ passing-more a b c bytes start done n i j k p within put still = record {
   still = still ∙ p.still;
 }
 
--- none did
+-- the sink took none
 same-passing : (a b c : Option (List ℕ)) (x y : List ℕ) → WritesNothing (followed_by a x) (followed_by b y) → WritesNothing b c →
     WritesNothing (followed_by a x) (followed_by c y)
 same-passing None b c x y same put = tt
@@ -64,7 +64,7 @@ kept-writes None b y p same = tt
 kept-writes (Some told) None y p same = absurd (cc)
 kept-writes (Some told) (Some so) y p same = ap Some (sym (append_assoc so y p)) ∙ ap (λ (o : Option (List ℕ)). followed_by o p) same
 
--- a piece was put, of which this many bytes were gathered
+-- a piece was written, of which this many bytes were gathered
 pub kept-puts : {K E : Type 0} (written : K → Option (List ℕ)) (old mid new : Gathering K) (bytes : List ℕ) (n : ℕ) →
     WritesNothing (written_by written old) (written_by written mid) → 0 < mid.room → 0 < length bytes → n ≡ min (length bytes) mid.room →
     new.kept ≡ mid.kept ++ take n bytes → new.sink ≡ mid.sink → Puts {E = E} (written_by written old) (written_by written new) bytes (Ok n)
@@ -95,7 +95,7 @@ through o b c bytes (Ok n) same p =
 through o b c bytes (Err e) same p =
     record { count = tt; some = tt; told = tt; empty = p.empty; unchanged = through-nothing o b c same p.unchanged }
 
--- a piece was put to the sink behind, where nothing was kept
+-- a piece was written to the next sink, with nothing kept before it
 pub puts-through : {K E : Type 0} (written : K → Option (List ℕ)) (old mid new : Gathering K) (bytes : List ℕ) (r : Result ℕ E) →
     WritesNothing (written_by written old) (written_by written mid) → mid.kept ≡ [] → new.kept ≡ mid.kept →
     Puts (written mid.sink) (written new.sink) bytes r → Puts (written_by written old) (written_by written new) bytes r

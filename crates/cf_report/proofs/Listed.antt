@@ -26,7 +26,7 @@ requests-next text lane j h = rw (add-one, drop-cons lane j 0) (simp append_asso
 
 pub ruleset listing = (requests-next)
 
--- no register, and one more
+-- an empty list of registers, and one more register
 pub kept-none : (text : List ℕ) (cache : List (Option ℕ)) → text ≡ text ++ kept_below 0 cache
 unfolding kept_below
 kept-none text cache = sym (append-nil text)

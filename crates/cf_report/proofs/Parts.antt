@@ -1,15 +1,15 @@
--- What a report has where it passed on what it had gathered, and where it failed to.
+-- What a report has received once it passed on what it had gathered, and once it failed to.
 use Rattle.std.proofs.Common.{ℕ, List, ◌++◌, length, Option, Some, None, refl, sym, ap, ◌∙◌, subst, arith}
 use Rattle.std.proofs.lemmas.List.{take_all}
 use Rattle.cf_io.specs.Puts.{Writes, WritesFront, WritesNothing}
 use Rattle.cf_report.specs.Putting.{WritesPart}
 
--- what it has is unchanged
+-- what it has received is unchanged
 pub nothing-written : (told : Option (List ℕ)) → WritesNothing told told
 nothing-written None = tt
 nothing-written (Some told) = refl
 
--- unchanged, and then a text, or a prefix of it
+-- unchanged at first, and then a text or a prefix of it is written
 pub text-after : (a b c : Option (List ℕ)) (text : List ℕ) → WritesNothing a b → Writes b c text → Writes a c text
 text-after None b c text same put = tt
 text-after (Some told) b c text same put = subst (λ (o : Option (List ℕ)). Writes o c text) same put
@@ -22,12 +22,12 @@ pub nothing-after : (a b c : Option (List ℕ)) → WritesNothing a b → Writes
 nothing-after None b c same put = tt
 nothing-after (Some told) b c same put = subst (λ (o : Option (List ℕ)). WritesNothing o c) same put
 
--- a text, and then unchanged
+-- a text is written, and then nothing changes
 pub text-before : (a b c : Option (List ℕ)) (text : List ℕ) → Writes a b text → WritesNothing b c → Writes a c text
 text-before None b c text put same = tt
 text-before (Some told) b c text put same = subst (λ (o : Option (List ℕ)). WritesNothing o c) put same
 
--- the whole text is a part of it, and so is a prefix
+-- the whole text is a part of the text, and so is a prefix
 pub part-whole : (a b : Option (List ℕ)) (text : List ℕ) → Writes a b text → WritesPart a b text
 part-whole None b text put = tt
 part-whole (Some told) b text put =

@@ -1,4 +1,4 @@
--- The lines of the stages one by one from the highest down, and those of the sidings from the first on.
+-- The lines of the stages, one by one from the highest down, and those of the sidings, from the first on.
 use Rattle.std.proofs.Common.{◌≡◌, ℕ, zero, suc, ◌+◌, ◌-◌, List, [], ◌∷◌, ◌++◌, Option, Some, length, take, drop, refl, ap, sym, ◌∙◌, append-nil, append_assoc, add-one, arith}
 use Rattle.std.specs.Prelude.{slice_get}
 use Rattle.cf_bind.specs.declared.cell.Cell.{Cell}
@@ -37,20 +37,20 @@ stage-next cells (suc k) j c e here =
     let same : j ≡ k = omega arith in
     rw (same, add-one, add-one) (next-stage (suc k) k cells c (sym here))
 
--- after it others may follow
+-- other lines may follow it
 pub stages-below : (cells : List Cell) (i : ℕ) (c : Cell) → Some c ≡ cell_at cells i → (rest : List ℕ)
     × ((stage_lines (i + 1) (drop i cells) ++ stage_line i c) ++ rest ≡ stage_lines 1 cells)
 stages-below cells zero c here = absurd (cc)
 stages-below cells (suc k) c here =
     (lower_lines 1 k cells, ap (λ text. text ++ lower_lines 1 k cells) (stage-next cells (suc k) k c (omega arith) here) ∙ cut-stages 1 (k + 1) k cells refl)
 
--- above the highest nothing is
+-- there is nothing above the highest
 pub no-stages : (n k : ℕ) (cells : List Cell) → length cells ≡ k → stage_lines n (drop k cells) ≡ []
 no-stages n k [] e = rw (← e) refl
 no-stages n zero (c ∷ cells) e = absurd (omega arith)
 no-stages n (suc k) (c ∷ cells) e = no-stages n k cells (omega arith)
 
--- what a siding of some number holds; nothing where there is none
+-- what the siding of this number holds; nothing if there is none
 abbrev held : List (List (Option Op)) → ℕ → List (Option Op)
 held sidings k = on (slice_get sidings k) [] (λ ops. ops)
 
@@ -76,7 +76,7 @@ cut-sidings n m (suc k) (ops ∷ sidings) e =
     append_assoc (siding_line n ops) (siding_lines (suc n) (take k sidings)) (siding_lines m (drop k sidings))
     ∙ ap (λ text. siding_line n ops ++ text) (cut-sidings (suc n) m k sidings (omega arith))
 
--- after it others may follow
+-- other lines may follow it
 pub sidings-after : (sidings : List (List (Option Op))) (k : ℕ) → (rest : List ℕ) × ((siding_lines 0 (take k sidings) ++ siding_line k (held sidings k)) ++ rest
     ≡ siding_lines 0 sidings)
 sidings-after sidings k =

@@ -1,4 +1,4 @@
--- What a report has after one text was written and then another, or after the first one failed.
+-- What a report has received after a text was written and then another, or after the first one failed.
 use Rattle.std.proofs.Common.{◌≡◌, ℕ, List, [], ◌++◌, Option, Ok, Err, refl, ◌∙◌, subst, arith}
 use Rattle.std.specs.Prelude.{Result}
 use Rattle.std.specs.Result.{IsErr}
@@ -24,7 +24,7 @@ again a b c i j k x y t (Err e) h g = record {
   };
 }
 
--- one text was written, and then another
+-- a text was written, and then another
 pub puts-again : {T U E : Type 0} {a b c : Option (List ℕ)} {i j k : ℕ} {x y : List ℕ} (z : List ℕ) {first : Result T E} {answer : Result U E} {t : T}
     → first ≡ Ok t → x ++ y ≡ z → PutsText a b i j x first → PutsText b c j k y answer → PutsText a c i k z answer
 puts-again {a = a} {b = b} {c = c} {i = i} {j = j} {k = k} {x = x} {y = y} z {answer = answer} {t = t} ok both h g =
@@ -39,13 +39,13 @@ stopped a b i j x y e (Err f) failed h = record {
   cause = record { never_falls = h.cause.never_falls; rose = h.cause.rose; still = tt };
 }
 
--- a text failed, after which another was to come
+-- writing a text failed, after which another was to come
 pub puts-stopped : {T U E : Type 0} {a b : Option (List ℕ)} {i j : ℕ} {x : List ℕ} (y z : List ℕ) {first : Result T E} {answer : Result U E} {e : E}
     → first ≡ Err e → x ++ y ≡ z → IsErr answer → PutsText a b i j x first → PutsText a b i j z answer
 puts-stopped {a = a} {b = b} {i = i} {j = j} {x = x} y z {answer = answer} {e = e} err both failed h =
     rw both at (stopped a b i j x y e answer failed (rw err at h))
 
--- a text was written so far, and no fault was counted
+-- a text has been written, and no fault was counted
 pub record HasPut (written after : Option (List ℕ)) (before now : ℕ) (text : List ℕ) : Type 0 where
   pub told : Writes written after text
   pub still : now ≡ before
@@ -75,7 +75,7 @@ pub put-all : {E : Type 0} {a b : Option (List ℕ)} {i j : ℕ} {x : List ℕ} 
 put-all z answer ok same h =
     rw (ok, ← same) (record { all = h.told; front = tt; cause = record { never_falls = omega (arith, h.still); rose = tt; still = h.still } })
 
--- the last text was written after it, or failed
+-- the last text was written after it, or writing it failed
 put-last : {T E : Type 0} (a b c : Option (List ℕ)) (i j k : ℕ) (x y : List ℕ) (answer : Result T E) → HasPut a b i j x → PutsText b c j k y answer →
     PutsText a c i k (x ++ y) answer
 put-last a b c i j k x y (Ok t) h g = record {
@@ -97,7 +97,7 @@ pub has-last : {T E : Type 0} {a b c : Option (List ℕ)} {i j k : ℕ} {x y : L
     PutsText a c i k (x ++ y) answer
 has-last {a = a} {b = b} {c = c} {i = i} {j = j} {k = k} {x = x} {y = y} {answer = answer} h g = put-last a b c i j k x y answer h g
 
--- what failed fails the whole
+-- a write that failed fails the whole
 pub has-failed : {T U E : Type 0} {a b : Option (List ℕ)} {i j : ℕ} {x : List ℕ} {first : Result T E} (answer : Result U E) {e : E} → first ≡ Err e →
     IsErr answer → PutsText a b i j x first → PutsText a b i j x answer
 has-failed (Ok u) err failed h = absurd (false≢true failed)
@@ -105,13 +105,13 @@ has-failed {a = a} {b = b} {i = i} {j = j} {x = x} (Err f) {e = e} err failed h 
     let g = rw err at h in
     record { all = tt; front = g.front; cause = record { never_falls = g.cause.never_falls; rose = g.cause.rose; still = tt } }
 
--- a failed text is a prefix of a longer one
+-- the part of a text that was written before a failure is also part of a longer text
 pub failed-more : {T E : Type 0} {a b : Option (List ℕ)} {i j : ℕ} {x : List ℕ} (y : List ℕ) (answer : Result T E) → IsErr answer → PutsText a b i j x answer →
     PutsText a b i j (x ++ y) answer
 failed-more y (Ok t) failed h = absurd (false≢true failed)
 failed-more {a = a} {b = b} {x = x} y (Err e) failed h = record { all = tt; front = front-first a b x y h.front; cause = h.cause }
 
--- the text after those so far failed, and more was to come
+-- writing the next text failed, and more was to come
 pub has-front : {T U E : Type 0} {a b c : Option (List ℕ)} {i j k : ℕ} {x y z : List ℕ} {first : Result T E} (answer : Result U E) {e : E} → first ≡ Err e →
     IsErr answer → ((rest : List ℕ) × ((x ++ y) ++ rest ≡ z)) → HasPut a b i j x → PutsText b c j k y first → PutsText a c i k z answer
 has-front {a = a} {c = c} {i = i} {k = k} answer err failed (rest, same) h g =

@@ -29,12 +29,12 @@ guess_field Taken = codes "taken"
 guess_field Wait = codes "wait"
 guess_field (To t) = codes "to:" ++ hex8 t
 
--- a register with its value, or `?` where the value is unknown
+-- a register with its value, or `?` if the value is unknown
 abbrev pub known_text : ℕ → Option ℕ → List ℕ
 known_text r (Some v) = value_text r v
 known_text r None = register_name r ++ codes "=?"
 
--- a binding, or `-` where there is none
+-- a binding, or `-` if there is none
 unfoldable pub binding_text : Option Binding → List ℕ
 binding_text (Some b) = known_text b.reg b.value
 binding_text None = codes "-"
@@ -50,7 +50,7 @@ progress_text (Some (end.Trap cause pc detail)) done launched = codes "trap"
 progress_text (Some (end.Exit status)) done launched = codes "exit"
 progress_text None done launched = if done then codes "done" else if launched then codes "out" else codes "new"
 
--- the state of an instruction; a dead one may still have its operation in a siding
+-- the state of an instruction; a dead instruction may still have its operation in a siding
 unfoldable pub flag_text : Passenger → List ℕ
 flag_text p =
     if p.dead then (if p.launched && not p.recovered then codes "dead-out" else codes "dead")

@@ -18,7 +18,7 @@ unfoldable pub fetch_line : Fetch → List ℕ
 fetch_line (Running pc) = line (codes "fetch " ++ hex8 pc)
 fetch_line Waiting = line (codes "fetch wait")
 
--- the list, or `-` where it is empty
+-- the list, or `-` if it is empty
 abbrev pub or_dash : List ℕ → List ℕ
 or_dash [] = codes " -"
 or_dash (byte ∷ listed) = byte ∷ listed
@@ -32,7 +32,7 @@ requests_text (r ∷ lane) = codes " " ++ register_name r ++ requests_text lane
 unfoldable pub lane_line : List ℕ → List ℕ
 lane_line lane = line (codes "lane" ++ or_dash (requests_text lane))
 
--- a register after a space where it is cached
+-- a register after a space, if it is cached
 abbrev pub cached_text : ℕ → Option ℕ → List ℕ
 cached_text r None = []
 cached_text r (Some v) = codes " " ++ value_text r v
@@ -79,7 +79,7 @@ abbrev pub siding_lines : ℕ → List (List (Option Op)) → List ℕ
 siding_lines k [] = []
 siding_lines k (ops ∷ sidings) = siding_line k ops ++ siding_lines (suc k) sidings
 
--- the cache is drawn where the layout has one
+-- the cache is drawn if the layout has one
 abbrev pub cache_text : Bool → List (Option ℕ) → List ℕ
 cache_text has cache = if has then cache_line cache else []
 

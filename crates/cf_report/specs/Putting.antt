@@ -3,7 +3,7 @@ use Rattle.std.specs.Prelude.{◌≡◌, ◌≤◌, ℕ, List, ◌++◌, take, l
 use Rattle.cf_io.specs.Causes.{HasCause}
 use Rattle.cf_io.specs.Puts.{Writes, WritesFront}
 
--- where the report exposes what was written: a prefix of these bytes, or all of them, was added after it
+-- if the report exposes what was written: a prefix of these bytes, or all of them, was added to it
 abbrev pub WritesPart : Option (List ℕ) → Option (List ℕ) → List ℕ → Type 0
 WritesPart None after bytes = Unit {0}
 WritesPart (Some written) after bytes = (n : ℕ) × (n ≤ length bytes) × (after ≡ Some (written ++ take n bytes))

@@ -86,7 +86,7 @@ pub(crate) fn put_lane<R: Sink>(core: &Core, report: &mut R) -> Result<(), Faile
     put_text(page.bytes(), report)
 }
 
-/// Appends a register after a space where it is cached.
+/// Appends a register after a space, if it is cached.
 fn push_kept(page: &mut Page, register: u8, kept: Option<u32>)
     requires { length page.old + 13 ≤ page_room }
     ensures text { page.new ≡ page.old ++ cached_text register kept }
@@ -166,7 +166,7 @@ fn has_operation(ops: &[Option<Op>]) -> bool
     ops.iter().any(|cell| cell.is_some())
 }
 
-/// The line of a siding with its cells, at most eight, also of one without an operation.
+/// The line of a siding with its cells, at most eight; a siding without an operation has a line too.
 pub fn any_siding_page(siding: u32, ops: &[Option<Op>]) -> Page
     requires { length ops.now ≤ 8 }
     ensures { result ≡ any_siding_line siding ops.now }

@@ -1,4 +1,4 @@
-//! A sink that gathers what is put to it.
+//! A sink that gathers what is written to it.
 
 ghost use Rattle.std.specs.Prelude.{◌≡◌, ◌+◌, ◌-◌, ◌<◌, ◌≤◌, [], ◌++◌, OnErr, OnOk, length, min, take, drop};
 ghost use Rattle.cf_io.specs.Causes.{HasCause};
@@ -9,11 +9,12 @@ use crate::report_sink::ReportSink;
 use cf_io::{Failed, Sink};
 use std::marker::Model;
 
-/// How many bytes are gathered at most.
+/// The maximum number of bytes that are gathered.
 const MOST_KEPT: usize = 4096;
 
-/// A sink before another. Once it is asked to, it gathers up to 4,096 bytes of what is put to it, and puts them to the other
-/// sink in one piece: where there is no room for more, or where it is to pass them on. It allocates no memory.
+/// A sink that passes its bytes on to another sink. Once it is asked to gather, it collects up to 4,096 bytes of what
+/// is written to it, and writes them to the other sink in one piece: when there is no room for more, or when it is
+/// asked to pass them on. It allocates no memory.
 #[derive(Drop)]
 pub struct Gathered<K: Sink + Drop> {
     sink: K,
@@ -34,7 +35,7 @@ impl<K: Sink + Drop> Model for Gathered<K> {
     ghost invariant = { λ g. (g.start ≤ g.end) × (g.end ≤ 4096) };
 }
 
-/// Puts the bytes from `start` on, which then says how far the sink got.
+/// Writes the bytes from `start` on; `start` then says how far the sink got.
 fn put_rest<K: Sink>(sink: &mut K, bytes: &[u8], start: &mut usize) -> Result<(), Failed>
     requires { start.old ≤ length bytes.now }
     ensures all { OnOk result (start.new ≡ length bytes.now) }
@@ -58,7 +59,7 @@ fn put_rest<K: Sink>(sink: &mut K, bytes: &[u8], start: &mut usize) -> Result<()
 }
 
 impl<K: Sink + Drop> Gathered<K> {
-    /// A sink before this one, which passes on at once what is put to it.
+    /// A sink that passes on to this one at once what is written to it.
     pub fn new(sink: K) -> Gathered<K>
         ensures { result ≡ gathers_for sink }
     {
@@ -71,14 +72,14 @@ impl<K: Sink + Drop> Gathered<K> {
         }
     }
 
-    /// The sink behind, which has what was passed on.
+    /// The next sink, which has what was passed on.
     pub fn sink(&self) -> &K
         ensures { result.now ≡ self.now.sink }
     {
         &self.sink
     }
 
-    /// Puts all that was gathered. Where the sink behind fails, what it did not get is kept.
+    /// Writes all that was gathered to the next sink. If that fails, what it did not take is kept.
     #[inline(never)]
     fn pass_all(&mut self) -> Result<(), Failed>
         ensures written { WritesNothing (written_by K.written self.old) (written_by K.written self.new) }
@@ -99,7 +100,7 @@ impl<K: Sink + Drop> Gathered<K> {
         passed
     }
 
-    /// Makes room for a byte at least.
+    /// Makes room for at least one byte.
     #[inline(always)]
     #[tactic(auto, using(crate::proofs::Keeping::keeping))]
     fn make_room(&mut self) -> Result<(), Failed>
@@ -139,7 +140,7 @@ impl<K: Sink + Drop> Gathered<K> {
         Ok(self.keep(bytes))
     }
 
-    /// Puts bytes from the start of a piece that is not empty to the sink behind.
+    /// Writes bytes from the start of a piece that is not empty to the next sink.
     #[tactic(auto, using(crate::proofs::Keeping::keeping))]
     fn put_through(&mut self, bytes: &[u8]) -> Result<usize, Failed>
         requires { 0 < length bytes.now }

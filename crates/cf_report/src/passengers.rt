@@ -51,7 +51,7 @@ fn push_guess(page: &mut Page, guess: Guess)
     }
 }
 
-/// Appends a binding, or `-` where there is none, and a space.
+/// Appends a binding, or `-` if there is none, and a space.
 fn push_binding(page: &mut Page, binding: Option<Binding>)
     requires { length page.old + 13 ≤ page_room }
     ensures text { page.new ≡ page.old ++ binding_text binding ++ codes " " }

@@ -10,7 +10,7 @@ use crate::stages::put_stage;
 use cf_core::Core;
 use cf_io::{Failed, Sink};
 
-/// Writes the cached registers, where the layout has the cache.
+/// Writes the cached registers, if the layout has the cache.
 fn put_kept<R: Sink>(core: &Core, report: &mut R) -> Result<(), Failed>
     ensures { PutsText (R.written report.old) (R.written report.new)
         (R.faults report.old) (R.faults report.new)
@@ -47,7 +47,7 @@ fn put_sidings<R: Sink>(core: &Core, report: &mut R) -> Result<(), Failed>
     Ok(())
 }
 
-/// Writes a picture of the processor: where fetch runs, the lane of requests, the cached registers where the layout has
+/// Writes a picture of the processor: where fetch runs, the lane of requests, the cached registers if the layout has
 /// the cache, the stages that are not empty from the highest down, and the sidings with an operation. After `Failed` a
 /// prefix of it was written.
 pub fn put_picture<R: Sink>(core: &Core, report: &mut R) -> Result<(), Failed>

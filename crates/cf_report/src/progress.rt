@@ -9,8 +9,8 @@ use crate::putting::put_text;
 use cf_io::{Failed, Sink};
 use texts::Page;
 
-/// Whether it is said after this many retired instructions how far a run has come: they are a multiple of the step, where
-/// there is one.
+/// Whether a line on the progress of a run is due after this many retired instructions: they are a multiple of the
+/// step, if there is one.
 #[inline(always)]
 pub fn is_step(every: Option<u64>, retired: u64) -> bool
     ensures { result ≡ is_step_of every retired }

@@ -1,4 +1,4 @@
-//! Sinks of a report, which may gather what is put to them.
+//! Sinks of a report, which may gather what is written to them.
 
 ghost use Rattle.std.specs.Prelude.{◌≡◌, ◌<◌, ℕ, List, [], OnErr, OnOk, length};
 ghost use Rattle.cf_io.specs.Causes.{HasCause};
@@ -7,18 +7,18 @@ ghost use Rattle.cf_io.specs.Puts.{WritesNothing};
 use cf_io::{Failed, MemSink, Nowhere, Sink, StdSink};
 use std::io::Write;
 
-/// A sink that may gather what is put to it before it passes it on to where the report is read.
+/// A sink that may gather what is written to it before it passes it on to where the report is read.
 pub trait ReportSink: Sink {
-    /// The bytes that were put and that it has not passed on yet.
+    /// The bytes that were written to it and not yet passed on.
     ghost kept: { Self → List ℕ };
 
-    /// Lets the sink gather from here on.
+    /// Lets the sink gather from now on.
     fn gather(&mut self)
         ensures written { Self.written self.new ≡ Self.written self.old }
         ensures faults { Self.faults self.new ≡ Self.faults self.old };
 
-    /// Passes on what was gathered. What was put stays what was put, also where it fails; then some of it is still kept, and
-    /// the count of faults has risen.
+    /// Passes on what was gathered. What was written does not change, even if this fails; then some of it is still
+    /// kept, and the count of faults has risen.
     fn pass_on(&mut self) -> Result<(), Failed>
         ensures written { WritesNothing (Self.written self.old) (Self.written self.new) }
         ensures passed { OnOk result (kept self.new ≡ []) }

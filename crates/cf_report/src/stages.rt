@@ -105,7 +105,7 @@ fn empty_stage_page(stage: u32) -> Page
     page
 }
 
-/// The line of a stage, also of an empty one.
+/// The line of a stage; an empty stage has a line too.
 pub fn any_stage_page(stage: u32, cell: &Cell) -> Page
     ensures { result ≡ any_stage_line stage cell.now }
 {

@@ -1,4 +1,4 @@
--- What a round has of its candidates.
+-- How a round relates to its candidates.
 use Rattle.std.proofs.Common.{◌≡◌, Bool, true, false, nat_lt, List, [], ◌∷◌, ◌++◌, length, Option, Some, None, inl, inr, refl, sym, ap, subst, ◌∙◌, append-nil, append_assoc}
 use Rattle.std.specs.Prelude.{◌||◌, filter, not, if◌then◌else◌}
 use Rattle.std.specs.List.{AllByRecursion, find}
@@ -17,7 +17,7 @@ use Rattle.cf_rounds.specs.Rounds.{AreApart, AreCandidates, IsAllowed, IsFull, I
 use Rattle.cf_rounds.proofs.Free.{IsFree, unshared_back}
 use Rattle.cf_index.proofs.Independence.{IsPlain}
 
--- what holds of each move, and of those that pass a test
+-- what is true of each move, and of those that pass a test
 all_passed : (test : Move → Type 0) (p : Move → Bool) (moves : List Move) → AllByRecursion test moves → AllByRecursion test (filter p moves)
 all_passed test p [] h = tt
 all_passed test p (mv ∷ moves) (h, hs) = by (p mv) (all_passed test p moves hs)
@@ -72,7 +72,7 @@ found_one test p (first ∷ moves) mv (h, hs) e = by (p first) refl (λ g. found
     by true f rest g = let same : first ≡ mv = cc in (subst test same h, ap p (sym same) ∙ f)
     by false f rest g = rest g
 
--- where no move is found, none passes it
+-- if no move is found, none passes the test
 none_found : (p : Move → Bool) (moves : List Move) → find p moves ≡ None → AllByRecursion (λ mv. p mv ≡ false) moves
 none_found p [] e = tt
 none_found p (mv ∷ moves) e = by (p mv) refl (λ g. none_found p moves g) e
@@ -92,7 +92,7 @@ pub all_after : (test : Move → Type 0) (round : List Move) (mv : Move) → All
 all_after test [] mv h k = (k, tt)
 all_after test (first ∷ round) mv (h, hs) k = (h, all_after test round mv hs k)
 
--- a move that shares a site with none of a round
+-- a move that shares no site with a round
 pub unshared : (plan : Plan) (round : List Move) (mv : Move) → shares_any plan round mv ≡ false → AllByRecursion (λ other. shares plan mv other ≡ false) round
 unshared plan [] mv e = tt
 unshared plan (first ∷ round) mv e = by (shares plan mv first) refl (λ g. unshared plan round mv g) e
@@ -109,7 +109,7 @@ apart_after plan [] mv h k = (tt, tt)
 apart_after plan (first ∷ round) mv (h, hs) (k, ks) =
     (all_after (λ other. shares plan first other ≡ false) round mv h (unshared_back plan mv first k), apart_after plan round mv hs ks)
 
--- the moves that are taken have what the candidates have, and share nothing
+-- a test that all candidates pass, the taken moves pass too; and they share no site
 pub taken_all : (test : Move → Type 0) (plan : Plan) (round moves : List Move) → AllByRecursion test round → AllByRecursion test moves →
     AllByRecursion test (taken_moves plan round moves)
 unfolding taken_moves
@@ -131,7 +131,7 @@ taken_apart plan round (mv ∷ moves) h = by (shares_any plan round mv) refl (λ
     by true e more = more round h
     by false e more = more (round ++ mv ∷ []) (apart_after plan round mv h (unshared plan round mv e))
 
--- those that were taken stay
+-- moves that were taken stay
 pub taken_more : (plan : Plan) (round moves : List Move) → (more : List Move) × (taken_moves plan round moves ≡ round ++ more)
 unfolding taken_moves
 taken_more plan round [] = ([], sym (append-nil round))
@@ -142,7 +142,7 @@ taken_more plan round (mv ∷ moves) = by (shares_any plan round mv) (λ next. t
     by true go = go round
     by false go = let h = go (round ++ mv ∷ []) in (mv ∷ h.0, h.1 ∙ append_assoc round (mv ∷ []) h.0)
 
--- and each candidate is taken, or shares a site with one that is
+-- and each candidate is taken, or shares a site with a taken one
 pub taken_full : (plan : Plan) (round moves : List Move) → AllByRecursion (IsTaken plan (taken_moves plan round moves)) moves
 unfolding taken_moves
 taken_full plan round [] = tt

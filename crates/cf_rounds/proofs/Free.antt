@@ -1,5 +1,5 @@
--- A round whose moves can be made, none of them alone, and share no site, is a run in each order, and all orders lead
--- to one moment.
+-- If the moves of a round can be made, none of them alone, and share no site, they are a run in each order, and all
+-- orders lead to one moment.
 use Rattle.std.proofs.Common.{◌≡◌, List, [], ◌∷◌, ◌++◌, Bool, true, false, Option, None, refl, sym, ap, subst, ◌∙◌}
 use Rattle.std.specs.Prelude.{◌||◌}
 use Rattle.cf_layout.specs.Layout.{Plan}
@@ -27,7 +27,7 @@ pub record IsFree (plan : Plan) (s : State) (round : List Move) : Type 0 where
   pub plain : AllByRecursion (IsPlain plan s) round
   pub apart : AreApart plan round
 
--- what is shared is shared either way
+-- sharing a site is symmetric
 pub unshared_back : (plan : Plan) (a b : Move) → shares plan a b ≡ false → shares plan b a ≡ false
 unshared_back plan a b e = go (shares plan b a) refl
   where
@@ -114,7 +114,7 @@ unfolding IsRun
 free_run plan m [] f = tt
 free_run plan m (a ∷ round) f = (f.plain.0.allowed, free_run plan (next plan m a) round (free_step plan m a round f))
 
--- the moves around one of a list
+-- the moves before and after one of a list
 all_around : (test : Move → Type 0) (front after : List Move) (mv : Move) → AllByRecursion test (front ++ after) → test mv →
     AllByRecursion test (front ++ mv ∷ after)
 all_around test [] after mv h k = (k, h)
@@ -126,7 +126,7 @@ apart_around plan [] after mv h k = (k, h)
 apart_around plan (first ∷ front) after mv (h, hs) (k, ks) =
     (all_around (λ other. shares plan first other ≡ false) front after mv h (unshared_back plan mv first k), apart_around plan front after mv hs ks)
 
--- what holds of each move holds in each order
+-- what is true of each move is true in each order
 pub all_ordered : (test : Move → Type 0) (moves other : List Move) → IsOrderOf moves other → AllByRecursion test moves → AllByRecursion test other
 all_ordered test [] other same h = subst (AllByRecursion test) (sym same) tt
 all_ordered test (mv ∷ moves) other (front, after, is, rest) (h, hs) =

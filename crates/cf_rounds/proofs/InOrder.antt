@@ -60,8 +60,8 @@ pub candidate_there : (plan : Plan) (s : State) (moves : List Move) (place : ℕ
     Some mv ≡ slice_get moves place → HasSites plan mv
 candidate_there plan s moves place mv p are e = there_allowed plan s mv p (all_at (IsAllowed plan s) moves place mv (candidates_allowed plan s moves are) e)
 
--- the moves that are taken so far: the layout has the sites that they use, no two share a site, and with the candidates
--- from the index on they make the round
+-- the moves that are taken so far: the layout has the sites that they use, no two share a site, and together with the
+-- candidates from the index on they make the round
 pub record TakenSoFar (plan : Plan) (moves round : List Move) (place : ℕ) : Type 0 where
   pub there : AllByRecursion (HasSites plan) round
   pub apart : AreApart plan round

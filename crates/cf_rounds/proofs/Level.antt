@@ -1,4 +1,4 @@
--- After each round the run is level with the count at its limit, and the program ends below that: so it ends as the
+-- After each round the run is level with the count at its limit, and the program ends below that, so it ends as the
 -- sequential machine does.
 use Rattle.std.proofs.Common.{◌≡◌, ℕ, ◌<◌, List, [], ◌∷◌, Bool, true, false, Option, None, inl, inr, ◌⊎◌, refl, sym, ap, subst, ◌∙◌, arith}
 use Rattle.std.specs.List.{AllByRecursion}
@@ -85,8 +85,8 @@ level_stays plan limit m mv free apart over =
       below = λ e ended. let low = over.below e (sym kept.ending ∙ ended) in let count = kept.retired in omega (arith, low, count);
     }
 
--- where the moves of a round have led: the count is below the limit; or the run is level there, and none of the moves
--- that are left shares a site with a Leave
+-- where the moves of a round lead: the count is below the limit; or the run is level there, and none of the remaining
+-- moves shares a site with a Leave
 abbrev Stands : Plan → ℕ → State → List Move → Type 0
 Stands plan limit s round = (s.retired < limit) ⊎ (Over plan limit s × AllByRecursion (λ other. shares plan Leave other ≡ false) round)
 
@@ -94,7 +94,7 @@ stands_over : (plan : Plan) (limit : ℕ) (s : State) (round : List Move) → St
 stands_over plan limit s round (inl low) = record { full = λ there. absurd (omega (arith, low, there)); below = λ e ended. low }
 stands_over plan limit s round (inr (over, rest)) = over
 
--- one of them more
+-- with one more of them
 stands_on : (plan : Plan) (limit : ℕ) (m : Moment) (mv : Move) (e : Event) (round : List Move) → IsFree plan m.state (mv ∷ round) → IsEvent plan m.state mv e →
     Stands plan limit m.state (mv ∷ round) → Stands plan limit (next plan m mv).state round
 stands_on plan limit m mv e round f is (inl low) = by (is_leave mv) refl
@@ -139,7 +139,7 @@ alone_level plan limit mv (made ∷ []) now new same is (there, one, at, all) lo
     subst (λ (p : Plan). Over p limit new.core.state) same (subst (Over now.core.plan limit) (state ∙ ap (λ (p : RunPlace). p.core.state) (sym all)) over)
 alone_level plan limit mv (made ∷ more ∷ trace) now new same is all low = absurd (cc)
 
--- so it is after each round that is made below the limit
+-- so the run is level after each round that is made below the limit
 pub round-level : (plan : Plan) (limit : ℕ) (trace : List Made) (now new : RunPlace) → now.core.plan ≡ plan → HasSidings plan now.core.state →
     IsRound plan now.core.state (moves_of trace) → MakesAll trace now new → now.core.state.retired < limit → Over plan limit new.core.state
 round-level plan limit trace now new same sidings r all low = by (round_form plan now.core.state (moves_of trace) sidings r)

@@ -122,7 +122,7 @@ falls plan m mv rest = by (is_leave mv) refl
     by true e = omega (arith, next-retired plan m mv)
     by false e = omega (arith, (kept_counts plan m mv e).retired)
 
--- two that leave share the highest stage
+-- two Leaves share the highest stage
 pub leave_there : (plan : Plan) → uses_place plan Leave (Stage plan.stages) ≡ true
 unfolding uses_place
 leave_there plan = grind (arith, nat_tests)
@@ -173,7 +173,8 @@ one_leaves mv = by (is_leave mv)
     by true = omega arith
     by false = omega arith
 
--- what is still to be made of a round: moves that can be made in any order; or, at the start, one that is made alone
+-- the part of a round that is still to be made: moves that can be made in any order; or, at the start, one that is made
+-- alone
 abbrev pub IsLeft : Plan → State → (round : List Move) → ℕ → Type 0
 IsLeft plan s round place =
     IsFree plan s (drop place round)
@@ -197,7 +198,7 @@ pub left_allowed : (plan : Plan) (s : State) (round : List Move) (place : ℕ) (
 left_allowed plan s round place mv (inl f) e = (subst (AllByRecursion (IsPlain plan s)) (drop_at round place mv e) f.plain).0.allowed
 left_allowed plan s round place mv (inr (at, sidings, (other, free, is))) e = ap (bar plan s) (one_there round other mv place at is e) ∙ free
 
--- and where it is Serve, it is alone
+-- and if it is Serve, it is alone
 pub left_serves : (plan : Plan) (s : State) (round : List Move) (place : ℕ) (mv : Move) → IsLeft plan s round place → Some mv ≡ slice_get round place →
     mv ≡ Serve → (place ≡ 0) × (round ≡ Serve ∷ [])
 left_serves plan s round place mv (inl f) e serves =
@@ -207,7 +208,7 @@ left_serves plan s round place mv (inl f) e serves =
 left_serves plan s round place mv (inr (at, sidings, (other, free, is))) e serves =
     (at, is ∙ ap (λ (m : Move). m ∷ []) (sym (one_there round other mv place at is e) ∙ serves))
 
--- with it made, the others are left
+-- after it is made, the others are left
 left_step : (plan : Plan) (m : Moment) (round : List Move) (place : ℕ) (mv : Move) → IsLeft plan m.state round place → Some mv ≡ slice_get round place →
     IsLeft plan (next plan m mv).state round (place + 1)
 left_step plan m round place mv (inl f) e = inl (free_step plan m mv (drop (place + 1) round) (subst (IsFree plan m.state) (drop_at round place mv e) f))
@@ -305,7 +306,7 @@ pub fired-allowed : (plan : Plan) (round : List Move) (start now : RunPlace) (pa
 fired-allowed plan round start now pace current fired place mv h there = ap (λ (l : Plan). bar l now.core.state mv) h.plan_is
     ∙ left_allowed plan now.core.state round place mv h.left there
 
--- and where it is Leave, as many instructions may retire as at the start
+-- and if it is Leave, as many instructions may retire as at the start
 pub fired-room : (plan : Plan) (round : List Move) (start now : RunPlace) (pace current : PaceCount) (fired : Fired) (place : ℕ) (mv : Move) (most : ℕ) →
     FiredSoFar plan round start now pace current fired place → Some mv ≡ slice_get round place → start.core.state.retired + 1 < most → mv ≡ Leave →
     now.core.state.retired + 1 < most

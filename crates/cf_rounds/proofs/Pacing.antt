@@ -1,4 +1,4 @@
--- The moves of rounds are a run under the hold rule: while the candidates are held no move is an Issue unless no other
+-- The moves of rounds are a run under the hold rule: while the candidates are held, no move is an Issue unless no other
 -- move is allowed.
 use Rattle.std.proofs.Common.{◌≡◌, ℕ, suc, ◌+◌, ◌*◌, ◌≤◌, Bool, true, false, nat_le, List, [], ◌∷◌, ◌++◌, Option, Some, None, refl, sym, ap, subst, ◌∙◌, arith}
 use Rattle.std.specs.Prelude.{◌||◌, slice_get, if◌then◌else◌}
@@ -47,7 +47,7 @@ all_from : (test : Move → Type 0) (moves : List Move) → ((k : ℕ) (mv : Mov
 all_from test [] h = tt
 all_from test (mv ∷ moves) h = (h 0 mv refl, all_from test moves (λ k m e. h (suc k) m e))
 
--- what holds of the candidates holds of their round
+-- what is true of the candidates is true of their round
 round_all : (test : Move → Type 0) (plan : Plan) (s : State) (moves : List Move) → AllByRecursion test moves → AllByRecursion test (round_of plan s moves)
 unfolding round_of
 round_all test plan s moves h = by (find (stands_alone plan s) moves) refl
@@ -56,7 +56,7 @@ round_all test plan s moves h = by (find (stands_alone plan s) moves) refl
     by None e = taken_all test plan [] moves tt h
     by (Some mv) e = ((found_one test (stands_alone plan s) moves mv h e).0, tt)
 
--- and a round shares nothing
+-- and a round shares no site
 round_apart : (plan : Plan) (s : State) (moves : List Move) → AreApart plan (round_of plan s moves)
 unfolding round_of
 round_apart plan s moves = by (find (stands_alone plan s) moves)
@@ -90,7 +90,7 @@ one_issue plan a b apart e = by (is_issue a) refl
     by false f = f
     by true f = absurd (let both : shares plan a b ≡ true = shared_at plan a b (Stage 1) (issue_there plan a f) (issue_there plan b e) in cc)
 
--- after a move that is not an Issue the candidates are held only where they were
+-- after a move other than Issue the candidates are held only if they were before
 held_before : (plan : Plan) (count : ℕ) (mv : Move) (e : Event) (drained : Bool) → IsAccepted plan → is_issue mv ≡ false →
     is_held plan (paced count mv e drained) ≡ true → is_held plan count ≡ true
 unfolding paced
@@ -103,7 +103,7 @@ held_before plan count mv e drained accepted other held = by (is_retirement e ||
         none n low h = grind (arith, nat_tests)
     by false h = rw other at h
 
--- so what may be said of the moves that are left may be said after one that was made
+-- so what is true of the remaining moves stays true after one was made
 may_stay : (plan : Plan) (s t : State) (count : ℕ) (mv : Move) (e : Event) (drained : Bool) (round : List Move) → IsAccepted plan → bar plan s mv ≡ None →
     AllByRecursion (λ other. shares plan mv other ≡ false) round → AllByRecursion (MayIssue plan count s) round
     → AllByRecursion (MayIssue plan (paced count mv e drained) t) round
@@ -142,7 +142,7 @@ in_round plan limit count told x before m last (first ∷ made) rest accepted ho
     subst (λ (s : State). PacesTo plan (paced count first.move first.event (is_drained s)) t (moves_of (made ++ rest)) last goes.0) is.state goes.1 in
     (retires plan m.state first.move ++ goes.0, (r, goes.0, first.event, is.allowed, one, is.event, counted, refl))
 
--- the offered moves, where the program goes on
+-- the offered moves, if the program goes on
 offered_may : (r : GuessRule) (plan : Plan) (x : Machine) (before : List Line) (m : Moment) (count : ℕ) → HoldsAnew plan x before m → m.state.ending ≡ None →
     AllByRecursion (MayIssue plan count m.state) (offered_by r plan count m.state)
 offered_may r plan x before m count holds going_on =

@@ -64,7 +64,7 @@ offered_are r plan count s = by (is_held plan count)
     by true = (r, inr refl)
     by false = (r, inl refl)
 
--- the moves of some rounds, with one more round
+-- the moves of some rounds, and those of the next round
 all_more : (rounds : List (List Made)) (made : List Made) → all_of (rounds ++ made ∷ []) ≡ all_of rounds ++ made
 all_more [] made = append-nil made
 all_more (first ∷ rounds) made = ap (λ (rest : List Made). first ++ rest) (all_more rounds made) ∙ sym (append_assoc first (all_of rounds) made)
@@ -404,7 +404,7 @@ turned limit now new pace later moves round fired turn goes o f is = subst (λ (
     by fault.ReadFault f = record { goes = goes; moves = moves; round = round; offer = o; serves = f.0; does = f.1 }
     by fault.WriteFault f = record { goes = goes; moves = moves; round = round; offer = o; serves = f.0; does = f.1 }
 
--- a turn that goes on
+-- a turn after which the run goes on
 pub comes-on : (rule : GuessRule) (limit : ℕ) (start now new : RunPlace) (pace later : PaceCount) (number : ℕ) → Comes rule limit start now pace number →
     RoundTurns limit now new pace later None → Comes rule limit start new later (number + 1)
 unfolding RoundTurns
@@ -432,7 +432,7 @@ comes-end rule limit start now new pace later number WriteFault c t = comes-runs
     (fails-there rule limit start now new pace number t.moves t.round ran.WriteFault c t.goes t.offer t.serves t.does)
 comes-end rule limit start now new pace later number ReportFault c t = absurd t
 
--- where the run stops, only the moves of the rounds were counted
+-- if the run stops, only the moves of the rounds were counted
 pub end-bounded : (rule : GuessRule) (limit : ℕ) (start now new : RunPlace) (pace later : PaceCount) (number : ℕ) (answer : Clocked) →
     IsAccepted start.core.plan →
     length start.core.state.regs ≡ 32 → IsOpened start.core → Comes rule limit start now pace number → RoundTurns limit now new pace later (Some answer)

@@ -1,4 +1,4 @@
--- What the report has after the rounds so far, with one more round, and where it fails.
+-- What the report has after the rounds so far, after one more round, and if it fails.
 use Rattle.std.proofs.Common.{◌≡◌, ◌≤◌, ℕ, ◌+◌, List, [], ◌∷◌, ◌++◌, length, Option, Some, None, refl, sym, ap, subst, ◌∙◌, append-nil, append_assoc, length-append, arith}
 use Rattle.run_options.specs.declared.guess_rule.GuessRule.{GuessRule}
 use Rattle.cf_io.specs.Puts.{Writes, WritesFront}
@@ -38,7 +38,7 @@ unfolding rounds_text comes-first
 said-first every rule limit start pace number blank none paced zero_rounds within over =
     (comes-first rule limit start pace number none paced zero_rounds within over, writes-nothing blank)
 
--- what is said behind rounds, with one more
+-- what is written after rounds, with one more
 text-more : (every : Option ℕ) (rule : GuessRule) (plan : Plan) (limit count n m : ℕ) (s : State) (rounds : List (List Made)) (held : ℕ) (end : State)
     (made : List Made) → InRounds rule plan limit count s rounds held end →
     rounds_text every n m s (rounds ++ made ∷ []) ≡ rounds_text every n m s rounds
@@ -88,7 +88,7 @@ rounds-on rule limit start now new pace later number c t = (
   state_there t.fires.trace now new t.fires.makes,
 )
 
--- so this is said behind it
+-- so this is written after it
 pub record SaidOn (every : Option ℕ) (rule : GuessRule) (limit : ℕ) (start new : RunPlace) (later : PaceCount) (number : ℕ) (blank half : Option (List ℕ))
     (text : List ℕ) : Type 0 where
   pub earlier : List (List Made)
@@ -159,7 +159,7 @@ said-broken every rule limit start new later number blank half full text accepte
       };
     }
 
--- and of such a run nothing is said of how it ends
+-- and nothing is claimed about how such a run ends
 pub broken-ends : (limit : ℕ) (start new : RunPlace) → EndsSequentially limit start new (Ran ran.ReportFault)
 unfolding EndsSequentially
 broken-ends limit start new plan hart opens = tt

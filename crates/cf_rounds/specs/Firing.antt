@@ -1,4 +1,4 @@
--- Making a round: its moves one after the other, each counted, and seen by the pace.
+-- Making a round: its moves are made one after the other, each counted and seen by the pace.
 use Rattle.std.specs.Prelude.{◌≡◌, ℕ, List, [], ◌∷◌, ◌++◌, Bool, true, false, Result, Ok, Err}
 use Rattle.std.specs.List.{AllByRecursion}
 use Rattle.run_options.specs.declared.guess_rule.GuessRule.{GuessRule}
@@ -69,12 +69,12 @@ Fires round now new pace later WriteFault =
     (round ≡ Serve ∷ []) × MoveDoes show.report Serve now new (Err ran.WriteFault) × (later ≡ pace)
 Fires round now new pace later answer = FiresAll round now new pace later answer
 
--- an error where the input failed the round
+-- an error if the input failed the round
 abbrev pub input_fired : Fired → Result (Unit {0}) (Unit {0})
 input_fired ReadFault = Err tt
 input_fired answer = Ok tt
 
--- an error where the output did
+-- an error if the output failed the round
 abbrev pub output_fired : Fired → Result (Unit {0}) (Unit {0})
 output_fired WriteFault = Err tt
 output_fired answer = Ok tt

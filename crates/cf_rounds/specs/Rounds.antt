@@ -22,20 +22,20 @@ pub record IsHeld (count : ℕ) (places : List Move) : Type 0 where
 abbrev pub shares_any : Plan → List Move → Move → Bool
 shares_any plan round mv = list_any (shares plan mv) round
 
--- the taken moves, and after them each move of a list, in order, that shares no site with one already taken
+-- the taken moves, followed by each move of a list, in order, that shares no site with one already taken
 unfoldable pub taken_moves : Plan → (round moves : List Move) → List Move
 taken_moves plan round [] = round
 taken_moves plan round (mv ∷ moves) = taken_moves plan (if shares_any plan round mv then round else round ++ mv ∷ []) moves
 
--- the round of some candidates: the first that must be made alone, where there is one; otherwise those that are taken
+-- the round of some candidates: the first that must be made alone, if there is one; otherwise those that are taken
 unfoldable pub round_of : Plan → State → List Move → List Move
 round_of plan s moves = on (find (stands_alone plan s) moves) (taken_moves plan [] moves) (λ mv. mv ∷ [])
 
--- these are the candidates of the state that some guess rule keeps, Issue held back or not
+-- these are the candidates of the state under some guess rule, with Issue held back or not
 abbrev pub AreCandidates : Plan → State → List Move → Type 0
 AreCandidates plan s moves = (r : GuessRule) × ((moves ≡ guided r plan s) ⊎ (moves ≡ held_back (guided r plan s)))
 
--- the moves are the round of the candidates of the state that some guess rule keeps, Issue held back or not
+-- the moves are the round of the state's candidates under some guess rule, with Issue held back or not
 pub record IsRound (plan : Plan) (s : State) (round : List Move) : Type 0 where
   pub moves : List Move
   pub are : AreCandidates plan s moves
@@ -54,8 +54,8 @@ AreApart plan (mv ∷ round) = AllByRecursion (λ other. shares plan mv other �
 abbrev pub IsTaken : Plan → List Move → Move → Type 0
 IsTaken plan round mv = ((front : List Move) × (after : List Move) × (round ≡ front ++ mv ∷ after)) ⊎ (shares_any plan round mv ≡ true)
 
--- the round is one move that is made alone; or no two of its moves share a site, and each candidate that it leaves out
--- shares one with a move that it has
+-- the round is one move that is made alone; or no two of its moves share a site, and each candidate outside it shares a
+-- site with one of its moves
 abbrev pub IsFull : Plan → State → (moves round : List Move) → Type 0
 IsFull plan s moves round =
     ((mv : Move) × (stands_alone plan s mv ≡ true) × (round ≡ mv ∷ []))

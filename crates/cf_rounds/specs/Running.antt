@@ -26,8 +26,8 @@ abbrev pub all_of : List (List Made) → List Made
 all_of [] = []
 all_of (made ∷ rounds) = made ++ all_of rounds
 
--- the rounds are made one after the other, each where the run goes on: the round of the candidates there that the
--- guess rule keeps, held back by the count of the Issue moves before it
+-- the rounds are made one after the other, each while the run goes on. Each is the round of the candidates there that
+-- the guess rule keeps, held back by the count of the Issue moves before it
 unfoldable pub InRounds : GuessRule → Plan → ℕ → ℕ → State → List (List Made) → (last : ℕ) → (end : State) → Type 0
 InRounds rule plan limit count s [] last end = (last ≡ count) × (end ≡ s)
 InRounds rule plan limit count s (made ∷ rounds) last end =

@@ -1,4 +1,4 @@
--- A run in rounds is a run of the sequential machine, and says how far it has come.
+-- A run in rounds is a run of the sequential machine, and reports how far it has come.
 use Rattle.std.specs.Prelude.{ℕ, List, Option}
 use Rattle.run_options.specs.declared.guess_rule.GuessRule.{GuessRule}
 use Rattle.run_options.specs.Reportings as show

@@ -17,7 +17,8 @@ use Rattle.cf_rounds.specs.declared.answer.Fired.TheVariants as fired
 use Rattle.cf_rounds.specs.Firing.{FiresAll}
 use Rattle.cf_rounds.specs.Rounds.{IsRound, round_of}
 
--- these candidates are offered there, for whatever guess rule and count of Issue moves the pace has, and this is their round
+-- these candidates are offered there, whatever guess rule and count of Issue moves the pace has, and this is their
+-- round
 pub record IsOffered (now : RunPlace) (pace : PaceCount) (moves round : List Move) : Type 0 where
   pub moves_are : (rule : GuessRule) (count : ℕ) → HasCounted rule now.core.plan.stages count pace → moves ≡ offered_by rule now.core.plan count now.core.state
   pub round_is : round ≡ round_of now.core.plan now.core.state moves
@@ -53,23 +54,23 @@ RoundTurns limit now new pace later (Some ReadFault) = FailsRound limit now new 
 RoundTurns limit now new pace later (Some WriteFault) = FailsRound limit now new pace ran.WriteFault
 RoundTurns limit now new pace later (Some ReportFault) = ⊥
 
--- how the run finishes with a round that shows this, if it does
+-- how the run finishes after a round that shows this, if it does
 abbrev pub finish_with : Fired → Option Clocked
 finish_with fired.ReadFault = Some ReadFault
 finish_with fired.WriteFault = Some WriteFault
 finish_with f = None
 
--- an error where the input failed the turn
+-- an error if the input failed the turn
 abbrev pub input_turned : Option Clocked → Result (Unit {0}) (Unit {0})
 input_turned (Some ReadFault) = Err tt
 input_turned answer = Ok tt
 
--- an error where the output did
+-- an error if the output failed the turn
 abbrev pub output_turned : Option Clocked → Result (Unit {0}) (Unit {0})
 output_turned (Some WriteFault) = Err tt
 output_turned answer = Ok tt
 
--- an error where the report failed behind a round
+-- an error if the report failed after a round
 abbrev pub report_turned : Option Clocked → Result (Unit {0}) (Unit {0})
 report_turned (Some ReportFault) = Err tt
 report_turned answer = Ok tt

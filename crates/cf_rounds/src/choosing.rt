@@ -87,10 +87,10 @@ fn take_all(core: &Core, c: &Candidates, set: &mut RoundSet)
     }
 }
 
-/// Makes the set hold the round of the candidates, held back or not. Where one of them is Serve, or the Leave of a live
-/// instruction that ends the program, the round is that move alone. Otherwise it has, in their order, each candidate
-/// that shares no site with those already taken. So no two moves of a round share a site, and each candidate that it
-/// leaves out shares one with a move that it has.
+/// Makes the set hold the round of the candidates, held back or not. If one of them is Serve, or the Leave of a live
+/// instruction that ends the program, the round is that move alone. Otherwise it has, in order, each candidate that
+/// shares no site with those already taken. So no two moves of a round share a site, and each candidate that it leaves
+/// out shares a site with one of its moves.
 pub fn choose(core: &Core, c: &Candidates, set: &mut RoundSet)
     requires candidates { AreCandidates core.now.plan core.now.state c.now }
     requires some { 0 < length c.now }

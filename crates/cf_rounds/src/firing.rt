@@ -30,8 +30,8 @@ fn with_event(fired: Fired, event: &Event) -> Fired
 /// Makes the moves of a round of the processor, in the order in which they were taken, counts them and shows them to
 /// the pace. Nothing bars any of them when its turn comes, and they could be made in any order.
 ///
-/// `Retired` and `Ended` come exactly where a move of the round has that event. `ReadFault` and `WriteFault` come only
-/// from Serve, which is a round of its own, and only where the input or the output failed its call; the move is not
+/// `Retired` and `Ended` come exactly if a move of the round has that event. `ReadFault` and `WriteFault` come only
+/// from Serve, which is a round of its own, and only if the input or the output failed its call; the move is not
 /// counted then. In each case that stream's count of faults rose.
 pub fn fire<S: Source, K: Sink>(
     core: &mut Core,

@@ -1,4 +1,4 @@
-//! What can be asked of a run in rounds.
+//! The options of a run in rounds.
 
 use run_options::GuessRule;
 
@@ -8,7 +8,7 @@ pub struct RoundsOptions {
     /// The number of retired instructions at which the run stops.
     pub limit: u64,
 
-    /// After each of how many of them the report says how far the run has come, if it does.
+    /// The number of retired instructions after which the report says each time how far the run has come, if it does.
     pub every: Option<u64>,
 
     /// The guess rule.

@@ -48,7 +48,7 @@ fn finish_before(core: &Core, limit: u64) -> Option<Clocked>
     }
 }
 
-/// How the run finishes with a round that shows this, if it does.
+/// How the run finishes after a round that shows this, if it does.
 fn finish_with(fired: Fired) -> Option<Clocked>
     ensures { result ≡ finish_with fired }
 {
@@ -94,8 +94,8 @@ fn advance<S: Source, K: Sink>(
     finish_with(fire(core, set, pace, input, output, tally))
 }
 
-/// Writes behind a round how far the run has come, if an instruction retired in it, and the retired ones are then a multiple
-/// of the step.
+/// Writes how far the run has come, after a round in which an instruction retired, if the count of retired instructions
+/// is then a multiple of the step.
 fn put_progress<R: Sink>(
     core: &Core,
     every: Option<u64>,
@@ -115,16 +115,16 @@ fn put_progress<R: Sink>(
     }
 }
 
-/// Runs an opened processor in rounds: makes the round of the candidates that the guess rule keeps, one after the other,
-/// until the program ends or as many instructions have retired as the limit allows, which is tested before each round. The
-/// candidates are held back as under a policy. Behind each round in which an instruction retires as a multiple of `every`,
-/// it is written to the report how far the run has come.
+/// Runs an opened processor in rounds, each the round of the candidates that the guess rule keeps, one after the other,
+/// until the program ends or as many instructions have retired as the limit allows, which is tested before each round.
+/// The candidates are held back as under a policy. After each round in which an instruction retires, if the count is
+/// then a multiple of `every`, the report says how far the run has come.
 ///
-/// `ReadFault` and `WriteFault` come only where the input or the output failed a call of the environment; that round is
-/// not counted, nor its move. `ReportFault` comes only where the report failed behind a round, which is counted. In each
+/// `ReadFault` and `WriteFault` come only if the input or the output failed a call of the environment; that round is
+/// not counted, nor its move. `ReportFault` comes only if the report failed after a round, which is counted. In each
 /// case that object's count of faults rose.
 ///
-/// Where the processor was opened on a machine, the run is a run of that machine, whether or not the input's remaining
+/// If the processor was opened on a machine, the run is a run of that machine, whether or not the input's remaining
 /// bytes are known, and ends as that machine does under the same limit. It has at most 4 N K (limit + 1) moves.
 pub fn run_rounds<S: Source, K: Sink, R: Sink>(
     core: &mut Core,

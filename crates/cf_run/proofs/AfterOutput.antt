@@ -1,4 +1,4 @@
--- What a move does where output was written before it, and how many instructions retire with it.
+-- What a move does after output was written, and how many instructions retire with it.
 use Rattle.std.proofs.Common.{◌≡◌, ℕ, ◌+◌, ◌≤◌, List, ◌++◌, Option, Some, None, refl, ap, append_assoc, arith}
 use Rattle.rv_machine.specs.Call.{Called}
 use Rattle.rv_machine.specs.Call as called
@@ -13,7 +13,7 @@ use Rattle.cf_semantics.specs.moves.Moves.{moved, next, served, asked}
 use Rattle.cf_semantics.specs.state.Passengers.{instruction}
 use Rattle.cf_semantics.specs.state.State.{State, Moment, cell_at}
 
--- the moment with an output that was written before
+-- the moment, with output that was written before
 abbrev pub after_output : List ℕ → Moment → Moment
 after_output earlier m = record m { output = earlier ++ m.output }
 

@@ -25,7 +25,7 @@ use Rattle.cf_run.proofs.Retirements.{shown-lines}
 use Rattle.cf_run.proofs.Runs.{leads-run}
 use Rattle.cf_run.proofs.Settling.{IsKept, kept-run, settles}
 
--- a run has reached a moment at which the invariant holds over a machine, with these lines, numbered from n on
+-- a run has reached a moment where the invariant holds over a machine, with these lines, numbered from n on
 pub record Arrives (shows : Reporting) (x : Machine) (m : Moment) (n : ℕ) (written : List Line) (begin now : RunPlace) : Type 0 where
   pub kept : IsKept begin.core.plan x m
   pub core : now.core ≡ in_state begin.core m.state

@@ -16,7 +16,7 @@ use Rattle.cf_run.specs.Scripts.{ScriptRun, Follows, ScriptTries}
 use Rattle.cf_run.specs.Asking.{SomeAsks, NextAsks}
 use Rattle.cf_run.proofs.Runs.{followed-more, followed-trace}
 
--- the moves of a longer list, where one of the first uses the stream
+-- if one of the first moves of a list uses the stream, one of the whole list does
 some-first : (asks : Processor → Move → Type 0) (plan : Plan) (s : State) (trace others : List Made) → SomeAsks asks plan s trace →
     SomeAsks asks plan s (trace ++ others)
 unfolding SomeAsks
@@ -24,7 +24,7 @@ some-first asks plan s [] others h = absurd h
 some-first asks plan s (made ∷ trace) others (inl h) = inl h
 some-first asks plan s (made ∷ trace) others (inr h) = inr (some-first asks plan made.state trace others h)
 
--- and where the last does
+-- and so it is if the last does
 some-last : (asks : Processor → Move → Type 0) (plan : Plan) (limit : ℕ) (told : Option (List ℕ)) (m : Moment) (trace : List Made) (last : Moment)
     (made : Made) → Leads plan limit told m trace last → asks (record { plan = plan; state = last.state }) made.move →
     SomeAsks asks plan m.state (trace ++ made ∷ [])
@@ -34,7 +34,7 @@ some-last asks plan limit told m (first ∷ trace) last made (rest, finds, is, h
     inr (subst (λ (s : State). SomeAsks asks plan s (trace ++ made ∷ [])) (sym is.state) (some-last asks plan limit told
     (next plan (record m { rest = rest }) first.move) trace last made h k))
 
--- a stream that the moves made so far use, or the next one, the moves with that one use
+-- if the moves made so far use a stream, or the next one does, so do all of these
 pub one-more : (asks : Processor → Move → Type 0) (limit : ℕ) (show : Reporting) (start now : RunPlace) (h : Reaches limit show start now) (made : Made) →
     SomeAsks asks start.core.plan start.core.state h.trace ⊎ asks now.core made.move
     → SomeAsks asks start.core.plan start.core.state (h.trace ++ made ∷ [])
@@ -56,7 +56,7 @@ next_asked : (asks : Processor → Move → Type 0) (limit : ℕ) (show : Report
 next_asked asks limit show now new t made same next =
     subst (asks now.place.core) (same_next (next_of now.script) next.line t.line next.move t.move next.next t.next ∙ sym same) next.asked
 
--- the same of a run with one more move
+-- the same for a run with one more move
 asked-more : (asks : Processor → Move → Type 0) (limit : ℕ) (show : Reporting) (start now new : ScriptRun) (f : Follows limit show start now)
     (t : ScriptTries limit show now new None) → SomeAsks asks start.place.core.plan start.place.core.state f.reaches.trace
     ⊎ NextAsks asks limit now.place.core now.script

@@ -40,7 +40,7 @@ opened_count : (core : Processor) (o : IsOpened core) → core.state.retired ≡
 unfolding opened_processor opened_on
 opened_count core o = ap (λ (p : Processor). p.state.retired) o.is
 
--- the machine that the run of an opened processor is a run of, with some input
+-- the machine, with some input, of which the run of an opened processor is a run
 abbrev pub machine_of : (core : Processor) → IsOpened core → List ℕ → Machine
 machine_of core o rest = machine_on o.hart rest
 
@@ -96,7 +96,7 @@ paced-offered limit shows begin now accepted wide o h written paces unended r co
     let there : P (in_state begin.core h.last.state) = ruled-some r plan x h.last count written accepted holds in
     subst P (sym h.core) there unended
 
--- so the picks of a policy are bounded in number
+-- so a policy makes a bounded number of picks
 pub reached-bounded : {P : Type 0} (rule : GuessRule) (picked : P → List Move → ℕ) (onward : P → List Move → P) (limit : ℕ) (shows : Reporting)
     (begin now : RunPlace) (policy : P)
     (at : Chooser P) → IsAccepted begin.core.plan → length begin.core.state.regs ≡ 32 → IsOpened begin.core → (h : Reaches limit shows begin now) →
@@ -142,7 +142,7 @@ bound_number plan r most accepted few =
         let two : 4 * a * b ≤ 128 * 272 = times (4 * a) 128 b 272 one g in
         times (4 * a * b) (128 * 272) c d two h
 
--- which can be counted
+-- so the moves can be counted
 pub bound_small : (plan : Plan) (r : ℕ) → IsAccepted plan → r ≤ most_limit → most_moves plan r + 1 < 2 ^ 63
 bound_small plan r accepted few = let n = bound_number plan r most_limit accepted few in omega (arith, n)
 

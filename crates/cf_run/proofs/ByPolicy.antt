@@ -1,4 +1,4 @@
--- The run of a policy: one more turn, and where it arrives, whatever stops it there.
+-- The run of a policy: the next turn, and where the run arrives, whatever stops it there.
 use Rattle.std.proofs.Common.{◌≡◌, ℕ, ◌-◌, ◌≤◌, List, [], ◌∷◌, ◌++◌, Option, Some, Err, refl, sym, ap, subst, ◌∙◌, inl, inr, append-nil, length}
 use Rattle.std.specs.Prelude.{◌⊎◌}
 use Rattle.run_options.specs.declared.guess_rule.GuessRule.{GuessRule}
@@ -120,7 +120,7 @@ unasked-turn {P} {T} picked asks limit shows begin now new at h t first between 
 nothing_last : (moves before : List Move) → moves ≡ before ++ [] → before ≡ moves
 nothing_last moves before e = sym (e ∙ append-nil before)
 
--- a run that its report stops, after its last move or before a further one
+-- a run that stops because its report failed, after its last move or before a further one
 reported-comes : (limit : ℕ) (shows : Reporting) (begin now new : RunPlace) (mv : Move) (moves : List Move) (h : Reaches limit shows begin now) →
     GoesOn limit now.core.state → (stopped : MoveDoes shows mv now new (Err ran.ReportFault) ⊎ FailsBefore mv now new) →
     moves ≡ moves_of h.trace ++ made_or_none mv stopped → ComesTo limit shows begin moves new (Ran ran.ReportFault)
@@ -130,7 +130,7 @@ reported-comes limit shows begin now new mv moves h goes (inr before) made =
     subst (λ (m : List Move). ComesTo limit shows begin m new (Ran ran.ReportFault)) (nothing_last moves (moves_of h.trace) made)
     (comes_unpassed limit shows begin now new mv h before)
 
--- whatever stops it, the run of a policy reached some RunPlace by the moves that it made and stopped there
+-- whatever stops it, the run of a policy reached some RunPlace by the moves that it made, and stopped there
 pub policy-comes : {P : Type 0} (rule : GuessRule) (picked : P → List Move → ℕ) (onward : P → List Move → P) (limit : ℕ) (shows : Reporting)
     (begin new : RunPlace)
     (policy later : P)
@@ -188,7 +188,7 @@ policy-bounded {P} rule picked onward limit shows begin new policy later moves a
         subst (λ (n : ℕ). place.tally.moves ≤ most_moves begin.core.plan (n - begin.core.state.retired)) (sym retired)
         (subst (λ (n : ℕ). n ≤ most_moves begin.core.plan (r.now.core.state.retired - begin.core.state.retired)) (sym (ap (λ (t : Tally). t.moves) tally)) here)
 
-    -- the last move counts, where the report failed after it
+    -- the last move counts if the report failed after it
     reported : (mv : Move) → GoesOn limit r.now.core.state → choice picked r.now.core.plan r.at r.now.core.state ≡ Some mv →
         MoveDoes shows mv r.now new (Err ran.ReportFault) ⊎ FailsBefore mv r.now new → Within new
     reported mv goes chosen (inl after) =

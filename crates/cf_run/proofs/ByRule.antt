@@ -1,5 +1,5 @@
--- What a policy is offered under a guess rule: moves that are allowed, at least one while the program goes on, and no Issue
--- except where the hold rule permits it.
+-- The moves that a policy is offered under a guess rule: all are allowed, there is at least one while the program goes
+-- on, and an Issue only if the hold rule permits it.
 use Rattle.std.proofs.Common.{◌≡◌, ℕ, ◌≤◌, List, length, Some, None, true}
 use Rattle.std.specs.Prelude.{slice_get}
 use Rattle.run_options.specs.declared.guess_rule.GuessRule.{GuessRule}
@@ -24,7 +24,7 @@ pub ruled-allowed : (r : GuessRule) (plan : Plan) (count : ℕ) (s : State) (k :
     bar plan s mv ≡ None
 ruled-allowed r plan count s k mv there = let h = among-offered r plan count s k mv there in offered_allowed plan count s h.place mv h.there
 
--- while the candidates are held, an Issue is offered only where no other move is allowed
+-- while the candidates are held, an Issue is offered only if no other move is allowed
 pub ruled-held : (r : GuessRule) (plan : Plan) (count : ℕ) (s : State) (k : ℕ) (mv : Move) → HasShape plan s →
     slice_get (offered_by r plan count s) k ≡ Some mv → is_held plan count ≡ true → is_issue mv ≡ true → IsStuck plan s
 ruled-held r plan count s k mv shape there held issue =

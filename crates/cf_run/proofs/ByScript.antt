@@ -20,7 +20,7 @@ followed_moves : (limit : ℕ) (shows : Reporting) (begin now : ScriptRun) (f : 
 unfolding tally_of
 followed_moves limit shows begin now f = rw f.reaches.tally f.moves
 
--- the same moves by the count of another RunPlace that has counted as many
+-- the same moves by the count of another RunPlace that has counted the same number
 by_count : (limit : ℕ) (shows : Reporting) (begin now new : ScriptRun) (answer : Scripted) (f : Follows limit shows begin now) →
     new.place.tally ≡ now.place.tally →
     ComesTo limit shows begin.place (moves_of f.reaches.trace) new.place answer → ComesTo limit shows begin.place
@@ -35,7 +35,7 @@ stays_there : (limit : ℕ) (shows : Reporting) (begin now new : ScriptRun) (ans
     (first_moves begin.script new.place.tally) new.place answer
 stays_there limit shows begin now new answer f same c = by_count limit shows begin now new answer f (ap (λ (p : RunPlace). p.tally) same) c
 
--- the last move, whose report failed, is the next of the script
+-- the last move, after which the report failed, is the next of the script
 unshown_moves : (limit : ℕ) (shows : Reporting) (begin now new : ScriptRun) (f : Follows limit shows begin now)
     (t : ScriptTries limit shows now new (Some (Ran ran.ReportFault))) → MoveDoes shows t.move now.place new.place (Err ran.ReportFault) →
     moves_of f.reaches.trace ++ t.move ∷ [] ≡ first_moves begin.script new.place.tally
@@ -56,7 +56,7 @@ unshown_moves limit shows begin now new f t after =
     sym (ap moves_of made.2 ∙ moves-more f.reaches.trace made.0 ∙ ap (λ (mv : Move). moves_of f.reaches.trace ++ mv ∷ []) made.1)
     ∙ followed_moves limit shows begin there (followed-more limit shows begin now there f tries)
 
--- a run of a script that its report stops, after its last move or before a further one
+-- a run of a script that stops because its report failed, after its last move or before a further one
 reported_there : (limit : ℕ) (shows : Reporting) (begin now new : ScriptRun) (f : Follows limit shows begin now)
     (t : ScriptTries limit shows now new (Some (Ran ran.ReportFault))) →
     MoveDoes shows t.move now.place new.place (Err ran.ReportFault) ⊎ FailsBefore t.move now.place new.place →

@@ -1,4 +1,4 @@
--- Where the run of a policy has arrived, by a pace that counts up to where the candidates are held.
+-- Where the run of a policy has arrived, by a pace that counts only until the candidates are held.
 use Rattle.std.proofs.Common.{◌≡◌, ℕ, ◌+◌, ◌-◌, ◌≤◌, ◌<◌, ◌^◌, List, ◌++◌, Bool, None, inl, inr, refl, sym, ap, subst, ◌∙◌, length, arith}
 use Rattle.std.specs.Prelude.{slice_get}
 use Rattle.run_options.specs.Limits.{most_limit}
@@ -48,7 +48,7 @@ comes-first rule picked onward limit shows begin policy held stages none beside 
 same_plan : (limit : ℕ) (shows : Reporting) (begin now : RunPlace) → Reaches limit shows begin now → now.core.plan ≡ begin.core.plan
 same_plan limit shows begin now h = ap (λ (p : Processor). p.plan) h.core
 
--- what is offered with the count that stops is what is offered
+-- the count that stops gives the same offers
 offers : {P : Type 0} (rule : GuessRule) (picked : P → List Move → ℕ) (onward : P → List Move → P) (limit : ℕ) (shows : Reporting) (begin now : RunPlace)
     (first current : P)
     (held : ℕ) → (c : HasPicked rule picked onward limit shows begin now first current held) → offered_by rule now.core.plan held now.core.state
@@ -78,7 +78,7 @@ onward_same {P} rule picked onward limit shows begin now first current held c =
     ap (λ (moves : List Move). onward current moves) (offers rule picked onward limit shows begin now first current held c)
     ∙ ap (λ (p : P). onward p (offered_to now.core.plan c.at now.core.state)) c.policy_is
 
--- the move that is taken by the count that stops is taken
+-- the move that is taken by the count that stops is also taken by the whole count
 took : {P : Type 0} (rule : GuessRule) (picked : P → List Move → ℕ) (onward : P → List Move → P) (limit : ℕ) (shows : Reporting) (begin now new : RunPlace)
     (first current : P)
     (held : ℕ) → (c : HasPicked rule picked onward limit shows begin now first current held) →
@@ -139,7 +139,7 @@ unasked-comes rule picked onward asks limit shows begin now new first current he
     })))
     unasked
 
--- and a stream that a move used was used, with one more pick
+-- and a stream that a move used is still used with one more pick
 pub asked-comes : {P : Type 0} (rule : GuessRule) (picked : P → List Move → ℕ) (onward : P → List Move → P) (asks : Processor → Move →
     Type 0) (limit : ℕ) (shows : Reporting) (begin now new : RunPlace) (first current : P) (held : ℕ) (later : Chooser P)
     (c : HasPicked rule picked onward limit shows begin now first current held) (t : Turned picked onward limit shows now new (chooser rule current held) later)
@@ -171,7 +171,7 @@ comes-bounded rule picked onward limit shows begin now first current held accept
     let b = bound_grows begin.core.plan (now.core.state.retired - begin.core.state.retired) limit (omega (arith, within)) in
     omega (arith, a, b)
 
--- which can be counted
+-- so they can be counted
 pub comes-counted : {P : Type 0} (rule : GuessRule) (picked : P → List Move → ℕ) (onward : P → List Move → P) (limit : ℕ) (shows : Reporting)
     (begin now : RunPlace) (first current : P)
     (held : ℕ) → IsAccepted begin.core.plan → length begin.core.state.regs ≡ 32 → IsOpened begin.core →
@@ -182,7 +182,7 @@ comes-counted rule picked onward limit shows begin now first current held accept
     let b = bound_small begin.core.plan limit accepted few in
     omega (arith, a, b)
 
--- at most as many instructions as the limit have retired
+-- no more instructions have retired than the limit allows
 pub turned-within : {P : Type 0} (picked : P → List Move → ℕ) (onward : P → List Move → P) (limit : ℕ) (shows : Reporting) (now new : RunPlace)
     (at later : Chooser P) → Turned picked onward limit shows now new at later → new.core.state.retired ≤ limit
 unfolding MoveDoes
@@ -262,7 +262,7 @@ comes-runs rule picked onward limit shows begin now new first current later held
   made = refl;
 }
 
--- after the move the count that stops is what the whole count is
+-- after the move the count that stops is the whole count, up to its bound
 pub seen-count : (before after : PaceCount) (mv : Move) (e : Event) (seen drained : Bool) (stages : ℕ) → after ≡ saw before mv e seen → seen ≡ drained →
     before.stages ≡ stages → after.count ≡ stopped stages (paced before.count mv e drained)
 seen-count before after mv e seen drained stages is same beside =
@@ -275,7 +275,7 @@ pub turned-plan : {P : Type 0} (picked : P → List Move → ℕ) (onward : P �
 unfolding MoveDoes
 turned-plan picked onward limit shows now new at later t = t.takes.does.makes.makes.plan
 
--- what uses the stream at the next pick by the count that stops uses it there
+-- if the next pick by the count that stops uses the stream, so does the next pick by the whole count
 choice-asks : {P : Type 0} (asks : Processor → Move → Type 0) (rule : GuessRule) (picked : P → List Move → ℕ) (onward : P → List Move →
     P) (limit : ℕ) (shows : Reporting) (begin now : RunPlace) (first current : P) (held : ℕ) →
     (c : HasPicked rule picked onward limit shows begin now first current

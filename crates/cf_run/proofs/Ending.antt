@@ -59,7 +59,7 @@ pub record Over (plan : Plan) (limit : ℕ) (s : State) : Type 0 where
   pub full : s.retired ≡ limit → served_count plan s ≡ 0
   pub below : (e : End) → s.ending ≡ Some e → s.retired < limit
 
--- so it is after a move that is made below the limit: the last move retired an instruction, or ended the program and
+-- this is so after a move that is made below the limit: the move retired an instruction, or ended the program and
 -- retired none
 pub over-made : (plan : Plan) (limit : ℕ) (m : Moment) (mv : Move) (e : Event) → bar plan m.state mv ≡ None → IsEvent plan m.state mv e →
     m.state.retired < limit → Over plan limit (next plan m mv).state
@@ -68,7 +68,7 @@ over-made plan limit m mv e free is low = record {
   below = λ end ended. let same = ended-kept plan m mv e end free is ended in omega (arith, same, low);
 }
 
--- and after all moves that are
+-- and after all moves that are made below the limit
 over-led : (plan : Plan) (limit : ℕ) (told : Option (List ℕ)) (m : Moment) (trace : List Made) (last : Moment) → Over plan limit m.state →
     Leads plan limit told m trace last → Over plan limit last.state
 unfolding Leads
@@ -99,7 +99,7 @@ record Level (plan : Plan) (limit : ℕ) (begin new : RunPlace) (m : Moment) (an
   regs : new.core.state.regs ≡ at.hart.regs
   streams : Leaves begin.streams new.streams at.rest at.output
 
--- no call is ahead where a run is over
+-- no call is ahead if a run is over
 unserved : (plan : Plan) (limit : ℕ) (x : Machine) (written : List Line) (m : Moment) (answer : Answer) → Refines plan x written m →
     (m.state.retired ≡ limit → served_count plan m.state ≡ 0) → IsOver limit m.state answer → served_count plan m.state ≡ 0
 unserved plan limit x written m (ran.Exit status) r full over = (r.level (ending.Exit status) over).0
@@ -127,7 +127,7 @@ over_ends plan limit x written m ran.ReadFault r count below over = absurd over
 over_ends plan limit x written m ran.WriteFault r count below over = absurd over
 over_ends plan limit x written m ran.ReportFault r count below over = absurd over
 
--- there is only one machine after a number of steps
+-- a machine leads to only one machine after a number of steps
 one_after : (o : Option Machine) (a b : Machine) → o ≡ Some a → o ≡ Some b → a ≡ b
 one_after o a b e f = cc
 
@@ -176,7 +176,7 @@ unfolding opened_processor
 over-opened limit core hart accepted wide opens =
     subst (Over core.plan limit) (sym (ap (λ (p : Processor). p.state) opens)) (over-started core.plan limit (machine_on hart []) accepted wide)
 
--- and where a run leads to
+-- and at the place to which a run leads
 over-reached : (limit : ℕ) (shows : Reporting) (begin now : RunPlace) (hart : Hart) → IsAccepted begin.core.plan → length hart.regs ≡ 32 →
     begin.core ≡ opened_processor begin.core.plan hart → Reaches limit shows begin now → Over begin.core.plan limit now.core.state
 over-reached limit shows begin now hart accepted wide opens h =
@@ -285,7 +285,7 @@ pub ends-sequentially : (limit : ℕ) (shows : Reporting) (begin now : RunPlace)
 ends-sequentially limit shows begin now hart answer accepted wide opens h over =
     ends-level limit limit shows begin now hart answer accepted wide opens h (over-reached limit shows begin now hart accepted wide opens h) over
 
--- the same of a run whose last RunPlace is that one
+-- the same for a run whose last RunPlace is that one
 pub same_place : (limit : ℕ) (hart : Hart) (begin now new : RunPlace) (answer : Answer) → new ≡ now → EndsAsMachine limit hart begin now answer →
     EndsAsMachine limit hart begin new answer
 same_place limit hart begin now new answer same e = subst (λ (p : RunPlace). EndsAsMachine limit hart begin p answer) (sym same) e
@@ -311,7 +311,7 @@ script-ends limit shows begin new hart ScriptEnd accepted wide opens r = tt
 script-ends limit shows begin new hart (BadScript refusal) accepted wide opens r = tt
 script-ends limit shows begin new hart (BarredAt line bar) accepted wide opens r = tt
 
--- and of a policy
+-- and the run of a policy
 pub policy-ends : {P : Type 0} (rule : GuessRule) (picked : P → List Move → ℕ) (onward : P → List Move → P) (limit : ℕ) (shows : Reporting)
     (begin new : RunPlace)
     (policy later : P)
@@ -330,7 +330,7 @@ policy-ends rule picked onward limit shows begin new policy later moves hart ran
 policy-ends rule picked onward limit shows begin new policy later moves hart ran.WriteFault accepted wide opens r = tt
 policy-ends rule picked onward limit shows begin new policy later moves hart ran.ReportFault accepted wide opens r = tt
 
--- on whatever hart the processor was opened
+-- whatever hart the processor was opened on
 pub script-ends-sequentially : (limit : ℕ) (shows : Reporting) (begin new : ScriptRun) (answer : Scripted) → IsAccepted begin.place.core.plan →
     length begin.place.core.state.regs ≡ 32 → RunsScript limit shows begin new answer → EndsSequentially limit begin.place new.place answer
 unfolding EndsSequentially

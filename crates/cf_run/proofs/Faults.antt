@@ -1,4 +1,4 @@
--- Which stream failed a run, where it is over and where a move stops it.
+-- Which stream failed a run, if it is over or a move stops it.
 use Rattle.std.proofs.Common.{◌≡◌, ℕ, Some, Ok, Err, refl}
 use Rattle.cf_semantics.specs.state.State.{State}
 use Rattle.run_finishes.specs.declared.finish.Ran.{Ran as Answer}
@@ -7,7 +7,7 @@ use Rattle.cf_run.specs.Moving.{input_done, output_done, report_done}
 use Rattle.run_finishes.specs.Stopped.{input_stopped, output_stopped, report_stopped}
 use Rattle.cf_run.specs.Reaching.{IsOver}
 
--- none where it is over
+-- none if it is over
 pub over-read : (limit : ℕ) (s : State) (answer : Answer) → IsOver limit s answer → input_stopped (Some answer) ≡ Ok tt
 over-read limit s (ran.Exit status) over = refl
 over-read limit s (ran.Trap cause pc detail) over = refl

@@ -1,4 +1,4 @@
--- What was written where the output failed is a prefix of what the sequential machine writes with its next step.
+-- If the output failed, what was written is a prefix of what the sequential machine writes by its next step.
 use Rattle.std.proofs.Common.{◌≡◌, ℕ, zero, suc, ◌+◌, List, [], ◌∷◌, ◌++◌, Option, Some, None, true, false, refl, sym, ap, subst, ◌∙◌, take, drop, append_assoc, arith}
 use Rattle.std.specs.Prelude.{IsTrue}
 use Rattle.std.proofs.lemmas.List.{take-append-drop}
@@ -48,7 +48,7 @@ serve_ecall : (i : Instr) (regs : List ℕ) (mem : Memory) (rest : List ℕ) →
 unfolding serve_of
 serve_ecall i regs mem rest e = rw e refl
 
--- the stage has what was put
+-- a changed stage holds its new cell
 put_there : (cells : List Cell) (n : ℕ) (c d : Cell) → cell_at cells n ≡ Some c → cell_at (put_cell cells n d) n ≡ Some d
 put_there cells zero c d e = absurd (cc)
 put_there [] (suc zero) c d e = absurd (cc)
@@ -110,8 +110,8 @@ front_of isa x n output bytes k at count is = record {
   front = is ∙ ap (λ (z : List ℕ). output ++ z) (sym (take-append-drop k bytes)) ∙ sym (append_assoc output (take k bytes) (drop k bytes));
 }
 
--- after a write that the output failed at a moment at which the invariant holds: the output of the moment and any
--- prefix of the buffer's bytes
+-- what was written if the output failed a write at a moment where the invariant holds: the output of the moment, and
+-- any prefix of the buffer's bytes
 pub front-after : (plan : Plan) (x : Machine) (m : Moment) (bytes : List ℕ) (k : ℕ) → IsAccepted plan → HoldsAfter plan x m → bar plan m.state Serve ≡ None →
     Where (passenger_at m.state.cells plan.stages) ⊥ (λ q. instruction q ≡ Ecall)
     → IsTrue (asks_output m.state.regs m.state.mem) → range_of m.state.mem (second_argument m.state.regs) (third_argument m.state.regs) ≡ Some bytes

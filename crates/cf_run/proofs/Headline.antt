@@ -1,5 +1,5 @@
--- A run is a run of the sequential machine on which its processor was opened, whatever chose its moves and whatever
--- stops it, and whether or not the input's remaining bytes are known.
+-- A run is a run of the sequential machine on which its processor was opened, whatever chose its moves, whatever stops
+-- it, and whether or not the input's remaining bytes are known.
 use Rattle.std.proofs.Common.{◌≡◌, ℕ, ◌+◌, List, Option, Some, None, refl, sym, ap, subst, ◌∙◌, length}
 use Rattle.run_options.specs.declared.reporting.Reporting.{Reporting}
 use Rattle.rv_machine.specs.Hart.{Hart}
@@ -56,7 +56,7 @@ run-untold limit shows hart begin new moves answer accepted wide opens none c =
       report = h.report;
     })
 
--- a processor that was opened under a layout has it
+-- a processor that was opened under a layout has that layout
 pub opened_here : (core : Processor) (plan : Plan) (hart : Hart) → core ≡ opened_processor plan hart → core ≡ opened_processor core.plan hart
 unfolding opened_processor
 opened_here core plan hart is = is ∙ ap (λ (l : Plan). opened_processor l hart) (sym (ap (λ (p : Processor). p.plan) is))

@@ -1,4 +1,4 @@
--- What a move of the processor did, as a move of a run.
+-- What a move of the processor does, as a move of a run.
 use Rattle.std.proofs.Common.{◌≡◌, ℕ, List, Option, Some, None, Result, Ok, Err, refl, subst, inl, inr}
 use Rattle.cf_io.specs.Causes.{HasCause}
 use Rattle.cf_io.specs.Puts.{WritesNothing}
@@ -110,7 +110,7 @@ goes-after show mv old new before after report mid later tally more (Err ran.Lim
 pub cause-after : {T E : Type 0} (i j k : ℕ) (r : Result T E) → j ≡ i → HasCause j k r → HasCause i k r
 cause-after i j k r same h = subst (λ (n : ℕ). HasCause n k r) same h
 
--- or the report failed to
+-- or the report failed to pass it on
 pub goes-unpassed : (show : Reporting) (mv : Move) (core : Processor) (streams : Streams) (report later : Option (List ℕ)) (tally : Tally) →
     bar core.plan core.state mv ≡ None → mv ≡ Serve → WritesNothing report later →
     MoveGoes show mv (run_place_of core streams report tally) (run_place_of core streams later tally) (Err ran.ReportFault)

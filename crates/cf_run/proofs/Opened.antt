@@ -25,7 +25,7 @@ pub newly-opened : (core : Processor) (plan : Plan) (hart : Hart) → core ≡ o
 unfolding opened_processor
 newly-opened core plan hart is = record { hart = hart; is = is ∙ ap (λ (p : Plan). opened_processor p hart) (sym (ap (λ (p : Processor). p.plan) is)) }
 
--- so a run of it may begin, where the hart has retired nothing
+-- so a run of it may begin, if the hart has retired nothing
 pub can-run : (limit : ℕ) (core : Processor) (plan : Plan) (hart : Hart) → limit ≤ most_limit → hart.retired ≡ 0 → core ≡ opened_processor plan hart →
     CanRun limit core
 can-run limit core plan hart few none is =

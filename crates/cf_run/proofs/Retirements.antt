@@ -1,4 +1,4 @@
--- The lines that are shown of the instructions that retire are those of the run.
+-- The lines that are shown of retiring instructions are those of the run.
 use Rattle.std.proofs.Common.{◌≡◌, ℕ, ◌+◌, List, [], ◌∷◌, ◌++◌, ◌⊎◌, inl, inr, Option, Some, None, true, false, refl, sym, ap, subst, ◌∙◌, arith}
 use Rattle.run_options.specs.Reportings as show
 use Rattle.rv_inst.proofs.OneWord.{Encodes-inj}
@@ -148,7 +148,7 @@ joined plan m mv e k more text (inr h) same texts =
     let number : k ≡ m.state.retired + 1 = same ∙ h.count in
     rw (h.lines, h.text k, number) (h.shown, text, h.shows, refl, subst (λ (n : ℕ). AreTexts (n + 1) more text) h.count texts)
 
--- the same of a move that was made
+-- the same for a move that was made
 pub made-texts : (plan : Plan) (limit : ℕ) (m : Moment) (made : Made) (more : List Line) (text : List ℕ) → IsMade plan limit m made →
     AreTexts ((next plan m made.move).state.retired + 1) more text
     → AreTexts (m.state.retired + 1) (retires plan m.state made.move ++ more) (retirement made.state.retired made.event ++ text)
@@ -156,7 +156,7 @@ made-texts plan limit m made more text is texts =
     joined plan m made.move made.event made.state.retired more text (tells plan m made.move made.event is.allowed is.event)
     (ap (λ (s : State). s.retired) is.state) texts
 
--- what is shown of the moves where retirements are, is a text of the lines of the run
+-- if retirements are shown, what is shown of the moves is a text of the lines of the run
 pub shown-lines : (plan : Plan) (limit : ℕ) (told : List ℕ) (m : Moment) (n : ℕ) (trace : List Made) (last : Moment) →
     Leads plan limit (Some told) m trace last → AreTexts (m.state.retired + 1) (lines plan m (moves_of trace)) (all_shown show.retired plan n trace)
 unfolding Leads lines all_shown shown next
@@ -184,7 +184,7 @@ shown_once line a b h k =
     ∙ ap (λ (n : ℕ). record { pc = b.pc; word = b.word; reg = n; value = a.value }) register
     ∙ ap (λ (n : ℕ). record { pc = b.pc; word = b.word; reg = b.reg; value = n }) value
 
--- so the text of some lines is one text
+-- so the text of some lines is unique
 pub one-text : (n : ℕ) (written : List Line) (a b : List ℕ) → AreTexts n written a → AreTexts n written b → a ≡ b
 one-text n [] a b h k = h ∙ sym k
 one-text n (line ∷ more) a b (shown, later, shows, is, rest) (other, after, tells, same, left) =

@@ -95,7 +95,7 @@ finds-rest (Some told) between left rest h k =
     let P : Option (List ℕ) → Type 0 = λ o. IsTold o rest in
     subst P h k
 
--- the moment after it, where something was written before
+-- the moment after it, if something was written before
 next-moment : (plan : Plan) (last : Moment) (mv : Move) (rest later added : List ℕ) (s : State) →
     next plan (record { state = last.state; rest = rest; output = [] }) mv ≡ record { state = s; rest = later; output = added }
     → next plan (record last { rest = rest }) mv ≡ record { state = s; rest = later; output = last.output ++ added }
@@ -105,7 +105,7 @@ next-moment plan last mv rest later added s is =
     ∙ next-after plan last.output blank mv
     ∙ ap (λ (m : Moment). record m { output = last.output ++ m.output }) is
 
--- what a move of a processor at a moment leads to
+-- where a move of a processor at a moment leads
 record Led (plan : Plan) (limit : ℕ) (told : Option (List ℕ)) (m : Moment) (trace : List Made) (start new : Processor) (before after : Streams) : Type 0 where
   last : Moment
   leads : Leads plan limit told m trace last
@@ -262,7 +262,7 @@ pub followed-trace : (limit : ℕ) (show : Reporting) (start now new : ScriptRun
 unfolding DoesLine MoveDoes followed-more reached-more
 followed-trace limit show start now new f t = (record { move = t.move; event = t.does.0; state = new.place.core.state }, refl, refl)
 
--- at most as many instructions as the limit have retired
+-- no more instructions have retired than the limit allows
 retired-within : (limit : ℕ) (old new : Processor) (mv : Move) (before after : Streams) → old.state.retired < limit → Makes old new mv before after →
     new.state.retired ≤ limit
 retired-within limit old new mv before after below makes =
@@ -293,7 +293,7 @@ pub tried-counted : (limit : ℕ) (show : Reporting) (now new : ScriptRun) → S
 unfolding DoesLine MoveDoes
 tried-counted limit show now new t = ap (λ (tally : Tally). tally.moves) t.does.1.makes.tally
 
--- no count is greater than that of the moves
+-- no count exceeds that of the moves
 pub counts-within : (limit : ℕ) (show : Reporting) (start now : RunPlace) → Reaches limit show start now →
     (now.tally.meets ≤ now.tally.moves) × (now.tally.kills ≤ now.tally.moves) × (now.tally.dead ≤ now.tally.moves)
 unfolding tally_of
@@ -304,13 +304,13 @@ counts-within limit show start now h =
       count_by-le-length (λ made. is_died made.event) h.trace,
     )
 
--- so all can be counted on where the moves can
+-- so if the moves can be counted, all can
 pub can-count : (limit : ℕ) (show : Reporting) (start now : RunPlace) → Reaches limit show start now → now.tally.moves + 1 < 2 ^ 64 → CanCount now.tally
 can-count limit show start now h few =
     let within = counts-within limit show start now h in
     record { moves = few; meets = omega (arith, few, within.0); kills = omega (arith, few, within.1); dead = omega (arith, few, within.2) }
 
--- a run that has made a move has made fewer than 2 ^ 25 with those that are left
+-- the moves of a run so far, if there are any, and those that are left are fewer than 2 ^ 25 together
 pub few-made : (made left : ℕ) → (0 < made → made + left < 2 ^ 25) → made ≤ 2 ^ 25
 few-made zero left few = omega arith
 few-made (suc made) left few = let all = few (omega arith) in omega (arith, all)

@@ -1,4 +1,4 @@
--- From every moment at which the invariant holds the processor settles: with issue held back it drains, to one end.
+-- From every moment where the invariant holds, the processor settles: with Issue held back it drains, to one end.
 use Rattle.std.proofs.Common.{◌≡◌, ℕ, zero, suc, ◌*◌, ◌≤◌, List, [], ◌∷◌, Option, Some, None, Bool, true, false, refl, sym, ap, subst, ◌∙◌, length, arith}
 use Rattle.std.specs.Prelude.{filter, not}
 use Rattle.rv_machine.specs.Machine.{Machine}
@@ -28,12 +28,12 @@ use Rattle.theory_confluence.proofs.drains.Determined.{ends_as}
 use Rattle.theory_confluence.proofs.drains.Tidy.{IsTidy, tidy_next, tidy_opened, tidy_run}
 use Rattle.cf_run.specs.Headline.{Settles}
 
--- what every move keeps, at the moment: the invariant over the machine, and that the state is tidy
+-- what every move preserves at the moment: the invariant over the machine, and that the state is tidy
 pub record IsKept (plan : Plan) (x : Machine) (m : Moment) : Type 0 where
   pub held : HoldsAfter plan x m
   pub tidy : IsTidy plan m.state
 
--- so it does after every run from the machine
+-- so every run from the machine preserves it
 pub kept-run : (plan : Plan) (x : Machine) (moves : List Move) → IsAccepted plan → length x.hart.regs ≡ 32 → IsRun plan (start plan x) moves →
     IsKept plan x (run plan (start plan x) moves)
 kept-run plan x moves accepted wide allowed = record {
@@ -74,11 +74,11 @@ other_allowed plan s mv more e =
     let h = first_holds (λ (v : Move). not (is_issue v)) (λ (v : Move). not (is_some (bar plan s v))) (all_moves plan) mv more e in
     (not_issue (is_issue mv) h.0, unbarred (bar plan s mv) h.1)
 
--- where the program has ended no move is allowed
+-- if the program has ended, no move is allowed
 ended_stuck : (plan : Plan) (s : State) (e : End) → s.ending ≡ Some e → IsStuck plan s
 ended_stuck plan s e ended mv other free = absurd (let none : None ≡ Some e = sym (going plan s mv free) ∙ ended in cc)
 
--- before the end the stages and sidings are as many as the layout says
+-- before the end there are as many stages and sidings as the layout says
 shaped : (plan : Plan) (x : Machine) (m : Moment) → IsKept plan x m → m.state.ending ≡ None → HasShape plan m.state
 shaped plan x m k unended =
     let s : Sound plan m.state m.rest m.output k.held.machine = subst (HoldsAt plan m.state m.rest m.output k.held.machine) unended k.held.stage in
@@ -94,7 +94,7 @@ before : (plan : Plan) (m t : Moment) (mv : Move) → is_issue mv ≡ false → 
 unfolding IsRun run
 before plan m t mv other free d = record { moves = mv ∷ d.moves; allowed = (free, d.allowed); held = rw (other, d.held) refl; is = d.is; stuck = d.stuck }
 
--- a move other than Issue makes it lighter
+-- a move other than Issue makes the state lighter
 lighter : (plan : Plan) (x : Machine) (m : Moment) (mv : Move) → Suits plan → IsKept plan x m → is_issue mv ≡ false → bar plan m.state mv ≡ None →
     suc (weight plan (next plan m mv).state) ≤ weight plan m.state
 lighter plan x m mv suits k other free =
@@ -102,7 +102,7 @@ lighter plan x m mv suits k other free =
     let none : moves_per_issue plan * counts (is_issue mv) 1 ≡ 0 = rw other (omega arith) in
     omega (arith, cost, none)
 
--- a moment drains where every moment to which a move other than Issue leads does
+-- a moment drains if every moment to which a move other than Issue leads drains
 drains_after : (plan : Plan) (x : Machine) (m : Moment) → IsKept plan x m → ((mv : Move) → is_issue mv ≡ false → bar plan m.state mv ≡ None →
     (t : Moment) × Drains plan (next plan m mv) t) → (t : Moment) × Drains plan m t
 drains_after plan x m k deeper = of m.state.ending refl
@@ -118,17 +118,17 @@ drains_after plan x m k deeper = of m.state.ending refl
     of None e = on_moves (other_moves (candidates plan m.state)) refl (shaped plan x m k e)
     of (Some end) e = (m, here plan m (ended_stuck plan m.state end e))
 
--- where the weight is at most n
+-- if the weight is at most n
 drains_within : (n : ℕ) (plan : Plan) (x : Machine) (m : Moment) → Suits plan → IsKept plan x m → weight plan m.state ≤ n → (t : Moment) × Drains plan m t
 drains_within zero plan x m suits k light = drains_after plan x m k (λ mv other free. absurd (omega (arith, light, lighter plan x m mv suits k other free)))
 drains_within (suc n) plan x m suits k light = drains_after plan x m k (λ mv other free.
     drains_within n plan x (next plan m mv) suits (kept-next plan x m mv suits k free) (omega (arith, light, lighter plan x m mv suits k other free)))
 
--- how a run that cannot be extended ends
+-- how a maximal run ends
 ends : (plan : Plan) (x : Machine) (m t : Moment) → Suits plan → IsKept plan x m → m.state.ending ≡ None → Drains plan m t → EndsAs plan x m t
 ends plan x m t suits k unended d = ends_as plan x m t suits k.tidy k.held unended d
 
--- any two end alike
+-- any two such runs end alike
 alike : (plan : Plan) (x : Machine) (m t u : Moment) → Suits plan → IsKept plan x m → Drains plan m t → Drains plan m u → EndAlike t u
 alike plan x m t u suits k d e = of m.state.ending refl
   where

@@ -1,4 +1,4 @@
--- A count that stops where the candidates are held gives the same offers.
+-- A count that stops once the candidates are held gives the same offers.
 use Rattle.std.proofs.Common.{◌≡◌, ℕ, ◌+◌, ◌*◌, Bool, true, false, refl, ap, min, nat_le, arith}
 use Rattle.std.proofs.lemmas.Bool.Decides.{nat_tests}
 use Rattle.std.specs.Prelude.{◌||◌, if◌then◌else◌}
@@ -33,7 +33,7 @@ paced-stopped stages count mv e drained = go (is_retirement e || drained) (is_is
     go false true = grind (arith, nat_tests)
     go false false = grind (arith, nat_tests)
 
--- by the count that stops the same is offered as by a count, for the stages of the layout
+-- the count that stops gives the same offers as the whole count, for the stages of the layout
 pub offers-offered : (c : PaceCount) (plan : Plan) (s : State) → c.stages ≡ plan.stages → offers c plan s ≡ offered_by c.rule plan c.count s
 unfolding offered_by offers
 offers-offered c plan s beside = ap (λ (n : ℕ). withheld (nat_le (2 * n) c.count) (guided c.rule plan s)) beside

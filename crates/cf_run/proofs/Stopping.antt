@@ -35,7 +35,7 @@ pub record IsStopped (shows : Reporting) (x : Machine) (m : Moment) (n : ℕ) (w
   pub stops : StopsAt x m begin new answer
   pub report : ReportsLines shows n written begin new answer
 
--- whatever holds of the RunPlace that it had reached, it stopped there
+-- whatever is true of the RunPlace that it had reached, it stopped there
 abbrev StopsFrom : Reporting → (begin now new : RunPlace) → Scripted → Type 0
 StopsFrom shows begin now new answer =
     (x : Machine) (m : Moment) (n : ℕ) (written : List Line) → Arrives shows x m n written begin now → IsStopped shows x m n written begin new answer
@@ -93,7 +93,7 @@ no_input mv m begin now new core streams outside h = record {
   output = subst (λ (o : Option (List ℕ)). Writes begin.streams.output o m.output) (sym h.fails.output) streams.output;
 }
 
--- what was written where a prefix was, and whether the output exposes it or not
+-- what was written if a prefix was, whether or not the output exposes it
 record Written (before after : Option (List ℕ)) (bytes : List ℕ) : Type 0 where
   count : ℕ
   told : Writes before after (take count bytes)
@@ -123,7 +123,7 @@ no_output mv x m begin now new accepted held core streams outside h =
       front = front-after begin.core.plan x m fails.fails.bytes part.count accepted held free fails.calls fails.fails.asks fails.fails.buffer;
     }
 
--- the report of a run that a failed call stops, which is not counted or shown
+-- the report of a run that a failed call stops; the call is not counted or shown
 broken_lines : (shows : Reporting) (x : Machine) (m : Moment) (n : ℕ) (written : List Line) (begin now new : RunPlace) (answer : Scripted) (mv : Move) →
     Arrives shows x m n written begin now → FailsOutside mv now new
     → ((text : List ℕ) → Writes begin.report new.report text → Gets begin.report new.report answer text) → ReportsLines shows n written begin new answer
@@ -149,7 +149,7 @@ unwritten_stop shows begin now new mv accepted outside fails x m n written a = r
   report = broken_lines shows x m n written begin now new (Ran ran.WriteFault) mv a outside (λ text w. w);
 }
 
--- a report that got all that was to be written to it
+-- a report that got everything that was to be written to it
 abbrev pub filled : Option (List ℕ) → List ℕ → Option (List ℕ)
 filled None text = None
 filled (Some told) text = Some (told ++ text)
@@ -158,7 +158,7 @@ fills : (told : Option (List ℕ)) (text : List ℕ) → Writes told (filled tol
 fills None text = tt
 fills (Some told) text = refl
 
--- a prefix of the last text is a prefix of all
+-- earlier texts and a prefix of the last are a prefix of all
 front_whole : (a b c : Option (List ℕ)) (x y z : List ℕ) → Writes a b x → WritesFront b c y → Writes a (filled b y) z → WritesFront a c z
 front_whole None b c x y z h front whole = tt
 front_whole (Some told) b c x y z h front whole =

@@ -1,4 +1,4 @@
--- What holds of a run where it stops holds at each of its moments: the moves made up to there are a run too.
+-- What is true of a run where it stops is true at each of its moments: the moves made up to there are a run too.
 use Rattle.std.proofs.Common.{◌≡◌, ℕ, zero, suc, List, [], ◌∷◌, ◌++◌, refl, sym, ap, subst, ◌∙◌, append_assoc, length, arith}
 use Rattle.rv_inst.specs.declared.isa.Isa.{Isa}
 use Rattle.rv_machine.specs.Hart.{Hart}
@@ -26,7 +26,7 @@ unfolding IsRun
 begun plan m [] more h = tt
 begun plan m (mv ∷ made) more h = (h.0, begun plan (next plan m mv) made more h.1)
 
--- so they are right where all of them are
+-- so they are right if all moves are
 pub right-throughout : (plan : Plan) (x : Machine) (moves : List Move) → IsAccepted plan → length x.hart.regs ≡ 32 → IsRight plan x moves →
     (made more : List Move) → moves ≡ made ++ more → IsRight plan x made
 right-throughout plan x moves accepted wide h made more parts =

@@ -46,7 +46,7 @@ use Rattle.cf_run.proofs.ByRule.{ruled-allowed}
 use Rattle.cf_run.proofs.Coming.{asked-comes, comes-bounded, comes-counted, comes-more, seen-count, turned-counted, turned-plan, turned-within}
 use Rattle.cf_run.proofs.Runs.{can-count}
 
--- What stays --
+-- What is unchanged --
 
 on_keeps : {X : Type 0} (o : Option X) (s : State) (f : X → State) → ((x : X) → Keeps s (f x)) → Keeps s (on o s f)
 on_keeps None s f all = record { ending = refl; retired = refl }
@@ -184,7 +184,7 @@ pub picked_free : (rule : GuessRule) (plan : Plan) (count : ℕ) (s : State) (la
     IsPicked rule (is_held plan count) plan s last m → bar plan s m ≡ None
 picked_free rule plan count s last m picked = ruled-allowed rule plan count s _ m (chosen_so rule plan count s last m picked)
 
--- and once it is made, counted and told to the pace, the rule has made one turn
+-- and once it is made, counted and recorded by the pace, the rule has made one turn
 picked_turn : (limit : ℕ) (now : RulePlace) (core : Processor) (m : Move) (pace : PaceCount) (tally : Tally) (e : Event) (seen : Bool) →
     kind_place m ≤ 12 → IsSweeping limit now → PicksNext now.pace now.core now.last m → core ≡ after_move now.core m →
     IsEvent now.core.plan now.core.state m e → tally ≡ counted_event now.tally m e → pace ≡ saw now.pace m e seen → seen ≡ is_drained core.state →
@@ -234,7 +234,7 @@ pub sweeps_on : (limit : ℕ) (show : Reporting) (now between new : RulePlace) �
 unfolding SweepsTo
 sweeps_on limit show now between new first (n, turns) = turns_on limit show now between new n first turns
 
--- where a run has come by a sweep, whose moves used what was used before
+-- where a run has come by a sweep; a stream that its moves had used before counts as used now
 pub record ComesBy (rule : GuessRule) (limit : ℕ) (show : Reporting) (begin : RunPlace) (first : Option Move) (streams : Streams) (report : Option (List ℕ))
     (now new : RulePlace)
     (c : HasPicked rule round_pick round_on limit show begin (exposing now streams report) first now.last now.pace.count) : Type 0 where
@@ -416,7 +416,7 @@ goes_on_so limit at ready = rw (ready.goes.unended, ready.works) refl
 
 -- One pick --
 
--- a picked move that was made, counted and told to the pace is a sweep
+-- a picked move that was made, counted and recorded by the pace is a sweep
 pub picked-sweeps : (limit : ℕ) (now : RulePlace) (core : Processor) (m : Move) (pace : PaceCount) (tally : Tally) (e : Event) (seen : Bool) →
     kind_place m ≤ 12 → IsSweeping limit now → PicksNext now.pace now.core now.last m → core ≡ after_move now.core m →
     IsEvent now.core.plan now.core.state m e → tally ≡ counted_event now.tally m e → pace ≡ saw now.pace m e seen → seen ≡ is_drained core.state →
@@ -440,7 +440,7 @@ pub picks_same : (rule : GuessRule) (held : Bool) (plan : Plan) (s : State) (las
     IsPickedFrom rule held plan s last r xs → IsPickedFrom rule held plan s last r ys
 picks_same rule held plan s last r xs ys is picked = subst (IsPickedFrom rule held plan s last r) is picked
 
--- and where they have no move, none but an Issue comes after the last pick
+-- and if these have no move, only an Issue can come after the last pick
 pub picks_last : (rule : GuessRule) (held : Bool) (plan : Plan) (s : State) (last : Option Move) (r : Rank) (xs : List Move) →
     IsPickedFrom rule held plan s last r xs → find (is_past r) xs ≡ None → IsLast plan s last
 unfolding IsPickedFrom

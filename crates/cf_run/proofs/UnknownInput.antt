@@ -1,5 +1,5 @@
 -- Where a run has arrived over an input whose remaining bytes are unknown: at a machine to which as many steps lead as
--- have retired, each of which finds some input.
+-- instructions have retired, each of which finds some input.
 use Rattle.std.proofs.Common.{◌≡◌, ℕ, ◌+◌, List, [], ◌∷◌, ◌++◌, Option, Some, None, refl, subst, length}
 use Rattle.run_options.specs.declared.reporting.Reporting.{Reporting}
 use Rattle.run_options.specs.Reportings as show
@@ -47,7 +47,7 @@ leads-anew plan limit m k (made ∷ trace) last (rest, finds, is, h) =
       texts = made-texts plan limit (finding rest m) made later.written (all_shown show.retired plan (k + 1) trace) is later.texts;
     }
 
--- of an input whose remaining bytes are unknown, anything may be left
+-- if the remaining bytes of an input are unknown, they may be any
 untold-input : (told after : Option (List ℕ)) (rest : List ℕ) → told ≡ None → Becomes told after rest
 untold-input None after rest none = tt
 untold-input (Some told) after rest none = absurd (cc)

@@ -13,7 +13,7 @@ use Rattle.cf_run.specs.Made.{Made}
 use Rattle.cf_run.specs.Reaching.{GoesOn}
 use Rattle.cf_run.specs.Scripts.{ScriptRun, RunsScript}
 
--- one of these moves uses the stream; the first was made in that state, and each other in the state that the move
+-- one of these moves uses the stream; the first move was made in that state, and each other in the state that the move
 -- before it left
 unfoldable pub SomeAsks : (asks : Processor → Move → Type 0) → Plan → State → List Made → Type 0
 SomeAsks asks plan s [] = ⊥
@@ -35,7 +35,7 @@ RunAsks asks limit show start new answer runs =
     SomeAsks asks start.place.core.plan start.place.core.state runs.follows.reaches.trace
     ⊎ NextAsks asks limit runs.now.place.core runs.now.script
 
--- a run, with a claim about the input that holds unless a move of the run uses it, and one about the output
+-- a run, with a claim about the input that is true unless a move of the run uses it, and one about the output
 pub record RunsUnasked (limit : ℕ) (show : Reporting) (start new : ScriptRun) (answer : Scripted) (input output : Type 0) : Type 0 where
   pub runs : RunsScript limit show start new answer
   pub input_asked : (RunAsks AsksInput limit show start new answer runs → ⊥) → input

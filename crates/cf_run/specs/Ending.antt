@@ -20,8 +20,8 @@ use Rattle.run_finishes.specs.declared.finish.Scripted.TheVariants.{Ran, ScriptE
 use Rattle.cf_run.specs.Headline.{machine_on}
 use Rattle.cf_run.specs.Moving.{RunPlace}
 
--- n steps lead to this machine from the one that starts on the hart with what the input exposes; where it exposes
--- nothing, each step finds some input
+-- n steps lead to this machine from the one that starts on the hart with what the input exposes; if it exposes nothing,
+-- each step finds some input
 abbrev pub IsAfterSteps : Isa → Option (List ℕ) → Hart → ℕ → Machine → Type 0
 IsAfterSteps isa (Some rest) hart n at = after isa (machine_on hart rest) n ≡ Some at
 IsAfterSteps isa None hart n at = (written : List Line) × GoesTo isa (machine_on hart []) n at written
@@ -36,7 +36,7 @@ EndsUnderLimit isa limit at ran.WriteFault = ⊥
 EndsUnderLimit isa limit at ran.ReportFault = ⊥
 
 -- the run of a processor that was opened on this hart ends as that machine does: it has the same ending, retired count,
--- registers, remaining input and output; the machine multiplies and divides where the layout does
+-- registers, remaining input and output; the machine multiplies and divides if the layout does
 pub record EndsAsMachine (limit : ℕ) (hart : Hart) (begin new : RunPlace) (answer : Answer) : Type 0 where
   pub at : Machine
   pub comes : IsAfterSteps (isa_of begin.core.plan) begin.streams.input hart (new.core.state.retired - hart.retired) at
@@ -45,7 +45,7 @@ pub record EndsAsMachine (limit : ℕ) (hart : Hart) (begin new : RunPlace) (ans
   pub regs : new.core.state.regs ≡ at.hart.regs
   pub streams : Leaves begin.streams new.streams at.rest at.output
 
--- this holds where the run ends with Exit, Trap or Limit
+-- this is claimed if the run ends with Exit, Trap or Limit
 abbrev pub EndsAlike : ℕ → Hart → (begin new : RunPlace) → Scripted → Type 0
 EndsAlike limit hart begin new (Ran (ran.Exit status)) = EndsAsMachine limit hart begin new (ran.Exit status)
 EndsAlike limit hart begin new (Ran (ran.Trap cause pc detail)) = EndsAsMachine limit hart begin new (ran.Trap cause pc detail)
@@ -57,7 +57,7 @@ EndsAlike limit hart begin new ScriptEnd = Unit {0}
 EndsAlike limit hart begin new (BadScript refusal) = Unit {0}
 EndsAlike limit hart begin new (BarredAt line bar) = Unit {0}
 
--- on whatever hart the processor was opened, the run ends as the machine that starts on it does
+-- whatever hart the processor was opened on, the run ends as the machine that starts on it does
 unfoldable pub EndsSequentially : ℕ → (begin new : RunPlace) → Scripted → Type 0
 EndsSequentially limit begin new answer =
     (plan : Plan) (hart : Hart) → begin.core ≡ opened_processor plan hart → EndsAlike limit hart begin new answer

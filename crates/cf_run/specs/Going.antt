@@ -14,8 +14,7 @@ use Rattle.cf_run.specs.Made.{Made, moves_of}
 abbrev pub moment_of : Processor → List ℕ → Moment
 moment_of core rest = record { state = core.state; rest = rest; output = [] }
 
--- the input that a move finds: what the moves before it have left, where the input exposes that, and otherwise any
--- input
+-- the input that a move finds: what the moves before it have left, if the input exposes that, and any input otherwise
 abbrev pub Finds : Option (List ℕ) → (left rest : List ℕ) → Type 0
 Finds None left rest = Unit {0}
 Finds (Some told) left rest = rest ≡ left
@@ -28,7 +27,7 @@ pub record IsMade (plan : Plan) (limit : ℕ) (m : Moment) (made : Made) : Type 
   pub event : IsEvent plan m.state made.move made.event
   pub state : made.state ≡ (next plan m made.move).state
 
--- the moves lead from one moment to another, each made where the one before it leads
+-- the moves lead from one moment to another, each made at the moment to which the one before it leads
 unfoldable pub Leads : Plan → ℕ → Option (List ℕ) → Moment → List Made → Moment → Type 0
 Leads plan limit told m [] last = last ≡ m
 Leads plan limit told m (made ∷ trace) last =

@@ -1,4 +1,4 @@
--- The headline: after each move of a run the processor shows what the sequential machine shows on which it was opened,
+-- The headline: after each move of a run the processor shows what the sequential machine on which it was opened shows,
 -- whether or not the input's remaining bytes are known; and it can drain ("Counterflow Pipeline Processor
 -- Architecture", 1994: the order of the local actions is free).
 use Rattle.std.specs.Prelude.{◌≡◌, ℕ, ◌+◌, ◌≤◌, List, [], ◌∷◌, ◌++◌, length, Option, Some, None}
@@ -43,18 +43,18 @@ machine_on hart rest = record { hart = hart; rest = rest; output = [] }
 abbrev pub moment_after : Plan → Machine → List Move → Moment
 moment_after plan x moves = run plan (start_on plan x) moves
 
--- The instructions that the machine retires: as many as have retired there.
+-- The instructions that the machine retires: as many as have retired at that moment.
 abbrev pub lines_after : Plan → Machine → List Move → List Line
 lines_after plan x moves = sequence (isa_of plan) x (gained x (moment_after plan x moves).state)
 
--- With issue held back the processor drains, within a stated number of moves, to one end: drained, in one state apart
--- from the cache at the bottom, or with the end of the program.
+-- With Issue held back the processor drains, within a stated number of moves, to one end: drained, in one state except
+-- for the cache at the bottom, or with the end of the program.
 pub record Settles (plan : Plan) (x : Machine) (m : Moment) : Type 0 where
   -- every run without Issue has at most as many moves as the weight of the state
   pub bounded : (moves : List Move) → IsRun plan m moves → issues moves ≡ 0 → length moves ≤ weight plan m.state
-  -- there is a run without Issue that cannot be extended
+  -- there is a maximal run without Issue
   pub drains : (t : Moment) × Drains plan m t
-  -- where the program goes on, each such run retires what is on the sequential path, and ends drained there or with the
+  -- if the program goes on, each such run retires what is on the sequential path, and ends drained there or with the
   -- program's end
   pub ends : m.state.ending ≡ None → (t : Moment) → Drains plan m t → EndsAs plan x m t
   -- any two such runs end alike
@@ -110,7 +110,7 @@ pub record FailsOutput (x : Machine) (m : Moment) (begin new : RunPlace) : Type 
   pub output : Writes begin.streams.output new.streams.output written
   pub front : IsFrontAfter (isa_of begin.core.plan) x (gained x m.state + 1) written
 
--- Where the run stops: at the moment, or where a call failed that was to be served there.
+-- Where the run stops: at the moment, or at a failed call that was to be served there.
 unfoldable pub StopsAt : Machine → Moment → (begin new : RunPlace) → Scripted → Type 0
 StopsAt x m begin new (Ran ran.ReadFault) = FailsInput m begin new
 StopsAt x m begin new (Ran ran.WriteFault) = FailsOutput x m begin new
@@ -122,13 +122,14 @@ AreTexts n [] text = text ≡ []
 AreTexts n (line ∷ more) text =
     (shown : Retired) × (later : List ℕ) × Shows line shown × (text ≡ retired_line n shown ++ later) × AreTexts (n + 1) more later
 
--- The report got the text; where it failed, a prefix of it, which may be all where it failed before a further move.
+-- The report got the text; if it failed, a prefix of it, which may be the whole text if it failed before a further
+-- move.
 unfoldable pub Gets : Option (List ℕ) → Option (List ℕ) → Scripted → List ℕ → Type 0
 Gets before after (Ran ran.ReportFault) text = WritesPart before after text
 Gets before after answer text = Writes before after text
 
--- What the report got about these instructions: what is shown of each of some moves, whose lines of retirement are
--- theirs.
+-- What the report got about these instructions: what is shown of some moves, whose retirement lines are those of the
+-- instructions.
 abbrev pub ReportsLines : Reporting → ℕ → List Line → (begin new : RunPlace) → Scripted → Type 0
 ReportsLines reporting n written begin new answer =
     (trace : List Made) × AreTexts n written (all_shown show.retired begin.core.plan 1 trace)
@@ -143,16 +144,17 @@ pub record RunsAs (shows : Reporting) (x : Machine) (moves : List Move) (begin n
   pub stops : StopsAt x (moment_after begin.core.plan x moves) begin new answer
   pub report : ReportsLines shows (x.hart.retired + 1) (lines_after begin.core.plan x moves) begin new answer
 
--- The moves lead from the start of the machine on this hart to the moment, each allowed where it is made and each
--- finding some input, and these are the lines of the instructions that retire in them.
+-- The moves lead from the start of the machine on this hart to the moment. Each is allowed where it is made and finds
+-- some input, and these are the lines of the instructions that retire in them.
 pub record IsLed (plan : Plan) (hart : Hart) (moves : List Move) (last : Moment) (written : List Line) : Type 0 where
   pub found : List ℕ
   pub left : List ℕ
   pub leads : LeadsTo plan (start_on plan (machine_on hart found)) moves (finding left last) written
 
 -- The moves are a run of the processor from the machine that starts on this hart, over an input whose remaining bytes
--- are unknown. As many steps as instructions have retired, each of which finds some input, lead to a machine, with
--- these lines, which are those of the moves. With some input left, what the moment to which they lead shows is what
+-- are unknown. As many steps as instructions have retired, each with some input, lead to a machine, with these lines,
+-- which are those of the moves. With some input left, the moment to which the moves lead shows what that machine does,
+-- and from there the processor drains.
 -- that machine does, and from there the processor drains.
 pub record IsRightOverUnknownInput (plan : Plan) (hart : Hart) (moves : List Move) (at : Machine) (written : List Line) (m : Moment) : Type 0 where
   pub led : IsLed plan hart moves m written
@@ -187,13 +189,13 @@ pub record RunsOverUnknownInput (shows : Reporting) (hart : Hart) (moves : List 
   pub stops : StopsAt at last begin new answer
   pub report : ReportsLines shows (hart.retired + 1) written begin new answer
 
--- The run is a run of the machine that starts on this hart with what the input exposes, by these moves; where the input
--- exposes nothing, a run of the machine each of whose calls finds some input, by these moves too.
+-- The run is a run of the machine that starts on this hart with what the input exposes, by these moves; if the input
+-- exposes nothing, it is a run of the machine each of whose calls finds some input, by these moves too.
 abbrev pub RunsOver : Option (List ℕ) → Reporting → Hart → List Move → (begin new : RunPlace) → Scripted → Type 0
 RunsOver (Some rest) shows hart moves begin new answer = RunsAs shows (machine_on hart rest) moves begin new answer
 RunsOver None shows hart moves begin new answer = RunsOverUnknownInput shows hart moves begin new answer
 
--- The headline, of a run that made these moves, whatever chose them: on whatever hart the processor was opened, and
+-- The headline for a run that made these moves, whatever chose them: whatever hart the processor was opened on, and
 -- whatever the input exposes, the run is a run of the machine that starts on that hart, at each of its moments.
 unfoldable pub RunsSequentially : Reporting → List Move → (begin new : RunPlace) → Scripted → Type 0
 RunsSequentially shows moves begin new answer =

@@ -49,7 +49,7 @@ tally_of trace = record {
   dead = count_by (λ made. is_died made.event) trace;
 }
 
--- one more where the test holds
+-- one more if the test holds
 abbrev pub raised_if : Bool → ℕ → ℕ
 raised_if test n = if test then n + 1 else n
 
@@ -77,8 +77,8 @@ retirement n event.Killed = []
 retirement n event.Died = []
 retirement n (event.Ended e) = []
 
--- how far the run has come with the move of this number, where it is said: an instruction retired with the move, and the
--- retired ones are then a multiple of the step
+-- how far the run has come with the move of this number, if that is shown: an instruction retired with the move, and
+-- the count of retired instructions is then a multiple of the step
 abbrev pub progress : (every : Option ℕ) → (retired n : ℕ) → Event → List ℕ
 progress None retired n e = []
 progress (Some every) retired n (event.Retired line) = if is_step (Some every) retired then moves_line retired n else []

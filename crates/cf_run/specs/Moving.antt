@@ -26,7 +26,7 @@ pub record RunPlace : Type 0 where
 abbrev pub run_place_of : Processor → Streams → Option (List ℕ) → Tally → RunPlace
 run_place_of core streams report tally = record { core = core; streams = streams; report = report; tally = tally }
 
--- the RunPlace with what these objects expose, given how a source and two sinks expose it
+-- the RunPlace of what a source and two sinks expose
 abbrev pub place_by : {S K R : Type 0} → (S → Option (List ℕ)) → (K → Option (List ℕ)) → (R → Option (List ℕ)) →
     Processor → S → K → R → Tally → RunPlace
 place_by unread written reported core input output report tally =
@@ -54,7 +54,7 @@ pub record MakesUnshown (show : Reporting) (mv : Move) (event : Event) (now new 
   pub makes : MakesMove mv event now new
   pub report : WritesFront now.report new.report (shown_of show mv event now new)
 
--- what else holds where the input or the output fails a call: nothing barred the move, it was Serve, and nothing was
+-- what else is true if the input or the output fails a call: nothing barred the move, it was Serve, and nothing was
 -- counted or shown
 pub record FailsOutside (mv : Move) (now new : RunPlace) : Type 0 where
   pub allowed : first_bar now.core.plan now.core.state mv ≡ None
@@ -74,8 +74,8 @@ MoveDoes show mv now new (Err (ran.Exit status)) = ⊥
 MoveDoes show mv now new (Err (ran.Trap cause pc detail)) = ⊥
 MoveDoes show mv now new (Err ran.Limit) = ⊥
 
--- the report failed before the move, which was not made, to pass on what it had gathered: nothing barred the move, it was
--- Serve, and nothing changed
+-- the report failed to pass on what it had gathered before the move, which was not made: nothing barred the move, it
+-- was Serve, and nothing changed
 pub record FailsBefore (mv : Move) (now new : RunPlace) : Type 0 where
   pub allowed : first_bar now.core.plan now.core.state mv ≡ None
   pub serves : mv ≡ Serve
@@ -84,23 +84,23 @@ pub record FailsBefore (mv : Move) (now new : RunPlace) : Type 0 where
   pub report : WritesNothing now.report new.report
   pub tally : new.tally ≡ now.tally
 
--- what the move does where the report may gather its text: the same, or the report fails before it
+-- what the move does if the report may gather its text: the same, or the report fails before it
 abbrev pub MoveGoes : Reporting → Move → (now new : RunPlace) → Result Event Answer → Type 0
 MoveGoes show mv now new (Ok event) = MoveDoes show mv now new (Ok event)
 MoveGoes show mv now new (Err ran.ReportFault) = MoveDoes show mv now new (Err ran.ReportFault) ⊎ FailsBefore mv now new
 MoveGoes show mv now new (Err answer) = MoveDoes show mv now new (Err answer)
 
--- an error where the input failed the run
+-- an error if the input failed the run
 abbrev pub input_done : Result Event Answer → Result (Unit {0}) (Unit {0})
 input_done (Err ran.ReadFault) = Err tt
 input_done answer = Ok tt
 
--- an error where the output did
+-- an error if the output failed the run
 abbrev pub output_done : Result Event Answer → Result (Unit {0}) (Unit {0})
 output_done (Err ran.WriteFault) = Err tt
 output_done answer = Ok tt
 
--- an error where the report did
+-- an error if the report failed the run
 abbrev pub report_done : Result Event Answer → Result (Unit {0}) (Unit {0})
 report_done (Err ran.ReportFault) = Err tt
 report_done answer = Ok tt

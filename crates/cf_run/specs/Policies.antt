@@ -1,4 +1,4 @@
--- What the run of a policy does: the moves that it picks from what it is offered, why it stops after them, and what it
+-- What the run of a policy does: the moves that it picks from those offered, why it stops after them, and what it
 -- leaves ("Counterflow Pipeline Processor Architecture", 1994: any schedule of local actions is a run).
 use Rattle.std.specs.Prelude.{◌≡◌, ◌≤◌, ◌⊎◌, ℕ, ◌+◌, ◌*◌, List, [], ◌∷◌, ◌++◌, slice_get, drop, Option, Some, None, Ok, Err}
 use Rattle.std.proofs.Common.{inl, inr}
@@ -121,12 +121,12 @@ abbrev pub PolicyTurns : {P : Type 0} → (picked : P → List Move → ℕ) →
 PolicyTurns picked onward limit show now new at later None = Turned picked onward limit show now new at later
 PolicyTurns picked onward limit show now new at later (Some answer) = StopsPolicy picked onward limit show at now new later.policy answer
 
--- the move, where the report failed after it, or none, where it failed before it
+-- the last move if the report failed after it, or none if it failed before it
 abbrev pub made_or_none : {A B : Type 0} → Move → A ⊎ B → List Move
 made_or_none mv (inl after) = mv ∷ []
 made_or_none mv (inr before) = []
 
--- the last move, where the report failed after it
+-- the last move, if the report failed after it
 abbrev pub made_last : {P : Type 0} → (picked : P → List Move → ℕ) → (onward : P → List Move → P) → (limit : ℕ) → (show : Reporting) → (at : Chooser P) →
     (now new : RunPlace) → (later : P) → (answer : Answer) → StopsPolicy picked onward limit show at now new later answer → List Move
 made_last picked onward limit show at now new later (ran.Exit status) stops = []
@@ -155,7 +155,7 @@ pub record RunsRight {P : Type 0} (rule : GuessRule) (picked : P → List Move �
   pub runs : RunsPolicy rule picked onward limit show start new policy later moves answer
   pub sequential : RunsSequentially show moves start new (Ran answer)
 
--- the most moves of a run under the hold rule in which r instructions retire: 4 N K (r + 1)
+-- the maximum number of moves of a run under the hold rule in which r instructions retire: 4 N K (r + 1)
 abbrev pub most_moves : Plan → ℕ → ℕ
 most_moves plan r = 4 * plan.stages * moves_per_issue plan * (r + 1)
 
@@ -175,7 +175,7 @@ PolicyAsks asks rule picked onward limit show start new policy later moves answe
     SomeAsks asks start.core.plan start.core.state runs.reaches.trace
     ⊎ ChoiceAsks asks picked limit runs.at runs.now.core
 
--- a run, with a claim about the input that holds unless a move of the run uses it, and one about the output
+-- a run, with a claim about the input that is true unless a move of the run uses it, and one about the output
 pub record PolicyUnasked {P : Type 0} (rule : GuessRule) (picked : P → List Move → ℕ) (onward : P → List Move →
     P) (limit : ℕ) (show : Reporting) (start new : RunPlace) (policy later : P) (answer : Answer) (input output : Type 0) : Type 0 where
   pub moves : List Move

@@ -75,17 +75,17 @@ abbrev pub ScriptTurns : ℕ → Reporting → (now new : ScriptRun) → Option 
 ScriptTurns limit show now new None = ScriptTries limit show now new None
 ScriptTurns limit show now new (Some answer) = ScriptStops limit show now new answer
 
--- an error where the input failed the run
+-- an error if the input failed the run
 abbrev pub input_scripted : Option Scripted → Result (Unit {0}) (Unit {0})
 input_scripted (Some (Ran ran.ReadFault)) = Err tt
 input_scripted answer = Ok tt
 
--- an error where the output did
+-- an error if the output failed the run
 abbrev pub output_scripted : Option Scripted → Result (Unit {0}) (Unit {0})
 output_scripted (Some (Ran ran.WriteFault)) = Err tt
 output_scripted answer = Ok tt
 
--- an error where the report did
+-- an error if the report failed the run
 abbrev pub report_scripted : Option Scripted → Result (Unit {0}) (Unit {0})
 report_scripted (Some (Ran ran.ReportFault)) = Err tt
 report_scripted answer = Ok tt

@@ -21,7 +21,7 @@ use Rattle.cf_run.specs.Moving.{RunPlace, run_place_of}
 use Rattle.cf_run.specs.Policies.{Chooser, Picks, Turned, chooser, fresh_chooser}
 use Rattle.cf_run.specs.Reaching.{GoesOn, Reaches}
 
--- the picks so far lead from one RunPlace to another, and leave this policy, and this count, which stops where the
+-- the picks so far lead from one RunPlace to another, and leave this policy, and this count, which stops once the
 -- candidates are held
 pub record HasPicked {P : Type 0} (rule : GuessRule) (picked : P → List Move → ℕ) (onward : P → List Move → P) (limit : ℕ) (shows : Reporting)
     (begin now : RunPlace)

@@ -34,7 +34,7 @@ pub fn t4_2()
         RunsSequentially show moves start new (Ran answer) }
 {}
 
-/// Where the run of a script or of a policy ends with Exit, Trap or Limit, its ending, the retired count, the registers
+/// If the run of a script or of a policy ends with Exit, Trap or Limit, its ending, the retired count, the registers
 /// and what was taken of the input and written to the output are those of the sequential machine under the same limit.
 pub fn t4_5()
     ensures scripts { (limit : ℕ) (show : Reporting) (start new : ScriptRun) (hart : Hart) (answer : Scripted) →
@@ -47,7 +47,8 @@ pub fn t4_5()
 {}
 
 /// The run of a policy on an opened processor has at most 4 N K (r + 1) moves, where r instructions retire in it,
-/// whatever the policy picks, under each guess rule and whatever the input exposes. Until the run is over a move is offered, so it ends.
+/// whatever the policy picks, under each guess rule and whatever the input exposes. Until the run is over a move is
+/// offered, so it ends.
 pub fn t5_6()
     ensures bounded { (rule : GuessRule) (limit : ℕ) (show : Reporting) (start new : RunPlace) (picks later : List ℕ) (moves : List Move)
         (answer : Answer) → IsAccepted start.core.plan → length start.core.state.regs ≡ 32 → IsOpened start.core →

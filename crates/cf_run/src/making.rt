@@ -56,8 +56,8 @@ pub fn make_and_show<S: Source, K: Sink, R: Sink>(
     }
 }
 
-/// Passes on what the report has gathered, before a Serve, whose call may read or write: so whoever answers the call, or
-/// reads what it wrote, has seen the report up to it.
+/// Passes on what the report has gathered, before a Serve, whose call may read or write: so whoever answers the call,
+/// or reads what it wrote, has seen the report up to it.
 #[inline(always)]
 fn pass_before<R: ReportSink>(mv: Move, report: &mut R) -> Result<(), Failed>
     ensures written { WritesNothing (R.written report.old) (R.written report.new) }
@@ -72,8 +72,8 @@ fn pass_before<R: ReportSink>(mv: Move, report: &mut R) -> Result<(), Failed>
     }
 }
 
-/// The same as `make_and_show`, where the report may gather its text: before a Serve the report passes on what it has, and
-/// where that fails the run stops there, and the move is not made.
+/// The same as `make_and_show`, if the report may gather its text: before a Serve the report passes on what it has; if
+/// that fails, the run stops there and the move is not made.
 #[inline(always)]
 pub(crate) fn make_in_order<S: Source, K: Sink, R: ReportSink>(
     core: &mut Core,

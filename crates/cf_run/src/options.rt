@@ -16,7 +16,7 @@ pub struct PolicyOptions {
     pub reporting: Reporting,
 }
 
-/// A run of a policy under way: what was asked of it, and its pace.
+/// A run of a policy in progress: what was asked of it, and its pace.
 #[derive(Drop)]
 pub(crate) struct Course {
     pub(crate) options: PolicyOptions,

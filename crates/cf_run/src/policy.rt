@@ -93,15 +93,15 @@ pub(crate) fn advance<P: Policy, S: Source, K: Sink, R: ReportSink>(
 
 /// Runs a policy on an opened processor: makes the moves that it picks, one after another, until the program ends, as
 /// many instructions have retired as the limit allows, or a fault occurs. These are tested in this order before each
-/// move. The policy is offered the allowed moves in the order of all moves, except an issue with an address, and of the other
-/// issues those that the guess rule keeps; where the hold rule holds Issue back, without Issue. What `reporting` selects is written to the report during the run. It allocates
-/// no memory and always terminates.
+/// move. The policy is offered the allowed moves in the order of all moves, without Issue if the hold rule holds it
+/// back. An issue with an address is never offered, and of the other issues only those that the guess rule keeps. What
+/// `reporting` selects is written to the report during the run. It allocates no memory and always terminates.
 ///
-/// `ReadFault` and `WriteFault` come only where the input or the output failed a call of the environment; that move is
-/// not counted. `ReportFault` comes only where the report failed: after a move that was made and counted, or as it passed
-/// on what it had gathered, before a Serve, which was not made. In each case that object's count of faults rose.
+/// `ReadFault` and `WriteFault` come only if the input or the output failed a call of the environment; that move is not
+/// counted. `ReportFault` comes only if the report failed: after a move that was made and counted, or as it passed on
+/// what it had gathered, before a Serve, which was not made. In each case that object's count of faults rose.
 ///
-/// Where no move of the run uses the input, what the input exposes is unchanged; the output likewise.
+/// If no move of the run uses the input, what the input exposes is unchanged; the output likewise.
 pub fn run_policy<P: Policy, S: Source, K: Sink, R: ReportSink>(
     core: &mut Core,
     candidates: &mut Candidates,

@@ -39,7 +39,7 @@ fn starts_over(core: &Core, last: Move, round: &Round, pace: &Pace) -> bool
     Candidates::starts_over(core, round.rank(), pace.held())
 }
 
-/// Makes moves that the rule picks next, one after another, where the search starts over and nothing is shown of them.
+/// Makes the next picks of the rule, one after another, if the search starts over and nothing is shown of them.
 #[inline(always)]
 #[tactic(auto, using(crate::proofs::Turning::no_turns))]
 fn sweep_after(
@@ -63,7 +63,7 @@ fn sweep_after(
     }
 }
 
-/// Makes some of the moves that the rule picks next, one after another; none where something is shown of them.
+/// Makes some of the next picks of the rule, one after another; none if something is shown of them.
 #[inline(always)]
 #[tactic(auto, using(crate::proofs::Turning::no_turns))]
 fn sweep(
@@ -84,8 +84,8 @@ fn sweep(
     }
 }
 
-/// Runs the rule on an opened processor. It does what `run_policy` does with it, and makes the moves of a kind over the stages
-/// in a loop of their own.
+/// Runs the rule on an opened processor. It does what `run_policy` does with the rule, and makes the moves of one kind
+/// over the stages in a loop of their own.
 pub fn run_rule<S: Source, K: Sink, R: ReportSink>(
     core: &mut Core,
     candidates: &mut Candidates,

@@ -87,17 +87,17 @@ fn advance<S: Source, K: Sink, R: ReportSink>(
 /// limit allows, or the next move cannot be read or made. These are tested in this order before each move, and no line
 /// after that point is read. What `reporting` selects is written to the report during the run.
 ///
-/// `ReadFault` and `WriteFault` come only where the input or the output failed a call of the environment; that move is
-/// not counted. `ReportFault` comes only where the report failed: after a move that was made and counted, or as it passed
-/// on what it had gathered, before a Serve, which was not made. In each case that object's count of faults rose.
+/// `ReadFault` and `WriteFault` come only if the input or the output failed a call of the environment; that move is not
+/// counted. `ReportFault` comes only if the report failed: after a move that was made and counted, or as it passed on
+/// what it had gathered, before a Serve, which was not made. In each case that object's count of faults rose.
 ///
-/// Where no move of the run uses the input, what the input exposes is unchanged; the output likewise. Only Serve uses
+/// If no move of the run uses the input, what the input exposes is unchanged; the output likewise. Only Serve uses
 /// them, for an ECALL that reads or writes.
 ///
-/// Where the processor was opened on a machine, the run is a run of that machine, in whatever order the script makes
-/// its moves: over the bytes that the input exposes, and where it exposes none, with each call finding some input.
-/// Where it ends with Exit, Trap or Limit, its ending, the retired count, the registers, and what it took and wrote are
-/// those of that machine under the same limit.
+/// If the processor was opened on a machine, the run is a run of that machine, in whatever order the script makes its
+/// moves: over the bytes that the input exposes, and if it exposes none, with each call finding some input. If it ends
+/// with Exit, Trap or Limit, its ending, the retired count, the registers, and what it took and wrote are those of that
+/// machine under the same limit.
 pub fn run_script<S: Source, K: Sink, R: ReportSink>(
     core: &mut Core,
     script: &mut Script<'_>,

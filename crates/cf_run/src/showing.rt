@@ -30,7 +30,8 @@ fn put_retirement<R: Sink>(n: u64, event: &Event, report: &mut R) -> Result<(), 
     }
 }
 
-/// Writes how far the run has come with a move, if an instruction retired with it, as a multiple of the step.
+/// Writes how far the run has come with a move, if an instruction retired with it and the count is then a multiple of
+/// the step.
 #[inline(always)]
 fn put_progress<R: Sink>(
     every: Option<u64>,
@@ -48,7 +49,7 @@ fn put_progress<R: Sink>(
     }
 }
 
-/// Writes the one after the other.
+/// Writes two texts, one after the other.
 fn put_both<R: Sink>(
     every: Option<u64>,
     retired: u64,
@@ -63,7 +64,8 @@ fn put_both<R: Sink>(
     put_progress(every, retired, made.number, &made.event, report)
 }
 
-/// Writes the line of the instruction that retired with a move, if one did, and how far the run has come, if it is said.
+/// Writes the line of the instruction that retired with a move, if one did, and how far the run has come, if that is
+/// shown.
 fn put_retirement_and_progress<R: Sink>(
     every: Option<u64>,
     retired: u64,
@@ -80,7 +82,7 @@ fn put_retirement_and_progress<R: Sink>(
     }
 }
 
-/// Writes the lines that are shown of the instructions and moves, with a move that left the processor in this state.
+/// Writes the lines that are shown of the instructions and moves, after a move that left the processor in this state.
 // A page is large; as a local of the run's loop it would slow the loop down.
 #[inline(never)]
 fn put_lines<R: Sink>(
@@ -129,8 +131,8 @@ fn put_some<R: Sink>(
 }
 
 /// Writes what is to be shown of the `n`th move, which left the processor in this state. Most runs show nothing.
-// The move and the event are passed by copy, so that they can stay in registers where nothing is shown. The two fields of
-// `reporting` are looked at one after the other: a pair of them is written to memory at each move.
+// The move and the event are passed by copy, so that they can stay in registers if nothing is shown. The two fields of
+// `reporting` are read one after the other: a pair of them would be written to memory at each move.
 #[inline(always)]
 pub(crate) fn put_shown<R: Sink>(
     core: &Core,

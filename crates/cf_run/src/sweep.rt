@@ -26,7 +26,7 @@ pub(crate) struct SweepPlace {
     pub(crate) rank: Rank,
 }
 
-/// Makes and counts the move that the rule picks, which is not Serve, and tells the pace.
+/// Makes and counts the rule's pick, which is not Serve, and records it in the pace.
 #[inline(always)]
 pub(crate) fn make_picked(
     core: &mut Core,
@@ -102,7 +102,7 @@ pub(crate) fn sweep_kind<T: SweptKind>(
     }
 }
 
-/// Makes the move of a kind that has one alone, where the rule picks it. After a Leave the run may be over.
+/// Makes the move of a kind that has only one, if the rule picks it. After a Leave the run may be over.
 #[inline(always)]
 pub(crate) fn sweep_once<T: SweptKind>(
     core: &mut Core,
@@ -126,9 +126,9 @@ pub(crate) fn sweep_once<T: SweptKind>(
     }
 }
 
-/// Makes the moves of Emit and of each kind over the stages that the rule picks one after another, until it picks another move,
-/// where the search starts over after the last pick.
-// A call of its own: with it the loop of a run stays small.
+/// Makes the moves of Emit and of each kind over the stages that the rule picks one after another, until it picks
+/// another move, if the search starts over after the last pick.
+// Not inlined, so that the loop of a run stays small.
 #[inline(never)]
 pub(crate) fn sweep_stages(
     core: &mut Core,

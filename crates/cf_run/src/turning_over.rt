@@ -1,4 +1,5 @@
-//! A round of the rule: a sweep over the stages, then the moves by which something leaves, and then again an Issue or what comes first.
+//! A round of the rule: a sweep over the stages, then the moves by which something leaves, and then an Issue, or again
+//! whichever move comes first.
 #![tactic(auto, using(crate::proofs::Turning::no_turns, crate::proofs::Turning::sweeps_on))]
 
 ghost use Rattle.std.specs.Prelude.{◌≡◌, ◌<◌, ◌≤◌, ◌+◌, IfSome, Some};
@@ -15,8 +16,8 @@ use cf_index::{AccessKind, Candidates, ExitKind, LeaveKind, Rank, RecoverKind};
 use cf_report::Tally;
 use cf_sched::Pace;
 
-/// Where a part of a round ends: the last pick of the rule; and the rank after which the next part looks for the next one, or none
-/// where that is to be looked for among all moves.
+/// Where a part of a round ends: the last pick of the rule; and the rank after which the next part looks for the next
+/// one, or None if that is to be looked for among all moves.
 #[derive(Clone, Copy)]
 pub(crate) struct PartEnd {
     pub(crate) last: Move,
@@ -54,7 +55,7 @@ fn take_slide(
     PartEnd { last: mv, rank }
 }
 
-/// Makes an Issue, and answers where the next sweep begins.
+/// Makes an Issue, and returns where the next sweep begins.
 #[inline(always)]
 fn take_issue(
     core: &mut Core,
@@ -82,8 +83,8 @@ fn take_issue(
     PartEnd { last: mv, rank }
 }
 
-/// Makes the Issue that the rule picks where no other move comes after its last pick, if it picks one, and answers where the next
-/// sweep begins. There is none where no move was made since this many were counted.
+/// Makes the Issue that the rule picks if no other move comes after its last pick, if it picks one, and returns where
+/// the next sweep begins. There is none if no move was made since this many were counted.
 #[inline(always)]
 fn start_over(
     core: &mut Core,
@@ -146,7 +147,7 @@ fn sweep_sidings(
     }
 }
 
-/// The same, where nothing is looked for if no siding has an operation.
+/// The same; nothing is looked for if no siding has an operation.
 #[inline(always)]
 fn pass_sidings(
     core: &mut Core,
@@ -171,7 +172,7 @@ fn pass_sidings(
     sweep_sidings(core, from, pace, limit, tally)
 }
 
-/// Makes Leave and Exit, where the rule picks them, until the run is over or the rule picks Serve.
+/// Makes Leave and Exit, if the rule picks them, until the run is over or the rule picks Serve.
 #[inline(always)]
 fn sweep_leaving(
     core: &mut Core,
@@ -235,9 +236,9 @@ fn sweep_outward(
     }
 }
 
-/// Makes moves that the rule picks one after another, round after round, where the search starts over after the last pick, until the
-/// next one is to be looked for among all moves.
-// A call of its own, with all parts of a round but the sweep over the stages in it.
+/// Makes moves that the rule picks one after another, round after round, if the search starts over after the last pick,
+/// until the next one is to be looked for among all moves.
+// Not inlined; it has all parts of a round in it except the sweep over the stages.
 #[inline(never)]
 pub(crate) fn sweep_rounds(
     core: &mut Core,

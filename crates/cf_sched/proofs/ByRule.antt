@@ -1,4 +1,5 @@
--- What is offered under a guess rule: some of what is offered under none, and at least one move where one is.
+-- What is offered under a guess rule: a part of what is offered under none, and at least one move if anything is
+-- offered then.
 use Rattle.std.proofs.Common.{◌≡◌, ◌∙◌, ap, sym, subst, ℕ, ◌<◌, List, length, Some, Bool, true, false, nat_lt}
 use Rattle.std.specs.Prelude.{slice_get, if◌then◌else◌}
 use Rattle.run_options.specs.declared.guess_rule.GuessRule.{GuessRule}
@@ -15,7 +16,7 @@ use Rattle.cf_index.proofs.Firsts.{any_guided, guided_others, others_are}
 use Rattle.cf_index.proofs.OneIssue.{some-left}
 use Rattle.cf_sched.specs.Paces.{offered_by}
 
--- by the rule that keeps every guess the same is offered
+-- the rule that keeps every guess gives the same offers
 pub any-offered : (plan : Plan) (count : ℕ) (s : State) → offered_by rules.Any plan count s ≡ offered plan count s
 unfolding offered offered_by
 any-offered plan count s = ap (withheld (is_held plan count)) (any_guided plan s)
@@ -50,7 +51,7 @@ among-offered r plan count s k mv there = go (is_held plan count) there
     go true e = held-among r plan s k mv e
     go false e = left-candidate r plan s k mv e
 
--- and something is offered
+-- and at least one move is offered
 held-some : (r : GuessRule) (plan : Plan) (s : State) → 0 < length (held_back (candidates plan s)) → 0 < length (held_back (guided r plan s))
 unfolding held_back
 held-some r plan s some =

@@ -1,4 +1,4 @@
--- A count that stops at twice as many as there are stages answers as the whole count does.
+-- A count that stops at twice the number of stages gives the same answers as the whole count.
 use Rattle.std.proofs.Common.{◌≡◌, ℕ, arith}
 use Rattle.std.proofs.lemmas.Bool.Decides.{nat_tests}
 use Rattle.run_options.specs.declared.guess_rule.GuessRule.{GuessRule}

@@ -1,5 +1,5 @@
--- What a policy is offered: the candidates that its guess rule keeps, with Issue held back or not. The hold rule has a count
--- that stops where Issue is held back: it gives the same answers as the whole count.
+-- What a policy is offered: the candidates that its guess rule keeps, with Issue held back or not. The hold rule has a
+-- count that stops once Issue is held back: it gives the same answers as the whole count.
 use Rattle.std.specs.Prelude.{◌≡◌, ℕ, ◌*◌, List, min, Bool, nat_le}
 use Rattle.run_options.specs.declared.guess_rule.GuessRule.{GuessRule}
 use Rattle.cf_layout.specs.Layout.{Plan}
@@ -10,7 +10,7 @@ use Rattle.cf_semantics.specs.moves.Holding.{is_held, paced}
 use Rattle.cf_index.specs.Allowed.{withheld}
 use Rattle.cf_index.specs.GuessRules.{guided}
 
--- the guess rule, how many stages there are, and the count, which stops at twice as many
+-- the guess rule, the number of stages, and the count, which stops at twice that number
 pub record PaceCount : Type 0 where
   pub rule : GuessRule
   pub stages : ℕ
@@ -20,7 +20,7 @@ pub record PaceCount : Type 0 where
 abbrev pub stopped : ℕ → ℕ → ℕ
 stopped stages count = min count (2 * stages)
 
--- a count of this many Issue moves, for this many stages, by this guess rule
+-- a count of this many Issue moves, for this many stages, under this guess rule
 abbrev pub HasCounted : GuessRule → ℕ → ℕ → PaceCount → Type 0
 HasCounted r stages count c = (c.rule ≡ r) × (c.stages ≡ stages) × (c.count ≡ stopped stages count)
 

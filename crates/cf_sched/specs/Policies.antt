@@ -5,7 +5,7 @@ use Rattle.rand_pcg.specs.Pcg.{multiplier_64, pcg32}
 use Rattle.cf_bind.specs.declared.moves.Move.{Move}
 use Rattle.cf_index.specs.Order.{first_after}
 
--- Round picks the first candidate after the last one that it picked, or the first of all where none comes after it or
+-- Round picks the first candidate after the last one that it picked, or the first of all if none comes after it or
 -- nothing was picked yet
 abbrev pub round_pick : Option Move → List Move → ℕ
 round_pick last moves = first_after last moves
@@ -14,7 +14,7 @@ round_pick last moves = first_after last moves
 abbrev pub round_on : Option Move → List Move → Option Move
 round_on last moves = slice_get moves (round_pick last moves)
 
--- Drawn keeps a generator; it begins with the one of a seed
+-- Drawn keeps a generator, which begins with that of a seed
 abbrev pub drawn_from_seed : ℕ → Lcg
 drawn_from_seed seed = started 64 multiplier_64 seed (increment_of 64 1)
 

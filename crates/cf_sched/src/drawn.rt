@@ -48,7 +48,7 @@ impl Drawn {
     }
 
     /// Picks one of the moves that a processor offers, from the list of all.
-    // The list is seldom needed, and is then made in a call, so that the pick from a word is part of a run's loop.
+    // The list is rarely needed, and is then made in a call, so that the pick from a word is part of a run's loop.
     #[inline(never)]
     fn choose_of_all(&mut self, core: &Core, pace: &Pace) -> Move
         requires { 0 < length (offers pace.now core.now.plan core.now.state) }

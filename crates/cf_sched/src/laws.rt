@@ -12,8 +12,8 @@ ghost use Rattle.cf_index.specs.Allowed.{allowed_issues, allowed_others, kept_is
 ghost use Rattle.cf_index.specs.GuessRules.{guess_at, guided};
 ghost use Rattle.cf_sched.specs.Paces.{offered_by};
 
-/// A guess rule leaves each candidate but an Issue. Where an Issue is a candidate, it leaves exactly one, by its guess for
-/// what fetch runs at; `Any` leaves each. So a move is offered where one is under `Any`.
+/// A guess rule keeps each candidate that is not an Issue. If an Issue is a candidate, it keeps exactly one, by its
+/// guess for what fetch runs at; `Any` keeps each. So a move is offered if one is under `Any`.
 pub fn guess_rules()
     ensures parts { (plan : Plan) (s : State) → candidates plan s ≡ allowed_issues plan s ++ allowed_others plan s }
     ensures left { (r : GuessRule) (plan : Plan) (s : State) → guided r plan s ≡ kept_issues r plan s ++ allowed_others plan s }

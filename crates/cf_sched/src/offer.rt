@@ -9,7 +9,7 @@ use cf_core::Core;
 use cf_index::Candidates;
 
 impl Pace {
-    /// Fills in the candidates of the processor that the guess rule keeps, without Issue where it is held back.
+    /// Fills in the candidates of the processor that the guess rule keeps, without Issue if it is held back.
     #[inline(always)]
     #[tactic(auto, unfolding(crate::specs::Paces::offers))]
     pub fn offer(&self, core: &Core, candidates: &mut Candidates)

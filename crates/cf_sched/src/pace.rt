@@ -12,8 +12,9 @@ use cf_semantics::Event;
 use run_options::GuessRule;
 use std::marker::Model;
 
-/// Keeps the guess rule, and counts the Issue moves since the start, the last retirement, or the last drained state, whichever is latest. Once
-/// there are twice as many as stages, Issue is held back. The count stops there, so it cannot overflow.
+/// Keeps the guess rule, and counts the Issue moves since the start, the last retirement, or the last drained state,
+/// whichever is latest. When there are twice as many as stages, Issue is held back. The count stops there, so it cannot
+/// overflow.
 #[derive(Drop)]
 pub struct Pace {
     rule: GuessRule,

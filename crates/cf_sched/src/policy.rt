@@ -25,8 +25,8 @@ pub trait Policy {
         ensures picked { result ≡ picked self.old candidates.now }
         ensures onward { self.new ≡ onward self.old candidates.now };
 
-    /// Picks one of the moves that a processor offers under the guess rule and the hold rule. Nothing is promised of what it leaves in
-    /// `candidates`, so that a policy that needs few of them need not fill in all.
+    /// Picks one of the moves that a processor offers under the guess rule and the hold rule. Nothing is promised about
+    /// the contents of `candidates` afterwards, so a policy that needs few of them need not fill in all.
     #[inline(always)]
     fn choose(&mut self, core: &Core, candidates: &mut Candidates, pace: &Pace) -> Move
         requires { 0 < length (offers pace.now core.now.plan core.now.state) }

@@ -13,9 +13,9 @@ use cf_core::Core;
 use cf_index::{Candidates, Rank};
 use std::marker::Model;
 
-/// Picks the first candidate after the last one that it picked in the order of all moves, or the first of all where
-/// none comes after it or nothing was picked yet. Contracts see it as the last one that it picked. It also keeps the
-/// rank of that pick; where nothing was picked, the rank of a Slide, after which all candidates are searched.
+/// Picks the first candidate after its last pick in the order of all moves, or the first of all if none comes after it
+/// or nothing was picked yet. Contracts see the policy as its last pick. It also keeps the rank of that pick; if
+/// nothing was picked, the rank of a Slide, after which all candidates are searched.
 #[derive(Drop)]
 pub struct Round {
     last: Option<Move>,
@@ -54,7 +54,7 @@ impl Round {
         self.last
     }
 
-    /// The rank of the last pick. Where nothing was picked, it is that of a Slide.
+    /// The rank of the last pick; that of a Slide if nothing was picked.
     #[inline(always)]
     pub fn rank(&self) -> Rank
         ensures { MatchOption self.now (result.kind ≡ slide_place) (λ mv. result ≡ rank_of mv) }
@@ -63,7 +63,7 @@ impl Round {
     }
 
     /// Records a pick.
-    // The rank is set first, so that the compiler knows it where it knows the pick.
+    // The rank is set first, so that the compiler knows it if it knows the pick.
     #[inline(always)]
     pub fn keep(&mut self, mv: Move)
         ensures { self.new ≡ Some mv }
@@ -88,8 +88,8 @@ impl Round {
 }
 
 /// The first of the moves that a processor offers after the last one, from the list of all.
-// This path is rare, and not inlined, so that the search after the last move is part of a run's loop. The policy is not
-// borrowed, so that it need not be in memory.
+// This path is rare, and not inlined, so that the search after the last move is part of a run's loop. Only the last
+// pick is passed, by value, so that the policy need not be in memory.
 #[inline(never)]
 fn first_of_all(last: Option<Move>, core: &Core, candidates: &mut Candidates, pace: &Pace) -> Move
     requires { 0 < length (offers pace.now core.now.plan core.now.state) }

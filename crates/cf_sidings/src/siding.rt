@@ -43,7 +43,7 @@ fn count(cells: &Vec<Option<Op>>) -> usize
     cells.len()
 }
 
-/// 1 where there is an operation, and else 0.
+/// 1 if there is an operation, and 0 otherwise.
 #[inline(always)]
 fn number(place: &Option<Op>) -> u64
     ensures { result ≡ number_in place.now }

@@ -31,7 +31,7 @@ impl Model for Sidings {
 }
 
 impl Sidings {
-    /// The empty sidings of the layout; or an error where there is no memory for them.
+    /// The empty sidings of the layout; or an error if there is no memory for them.
     #[tactic(auto, using(crate::proofs::Empty::emptying), unfolding(crate::specs::Sidings::empty_sidings))]
     pub fn new(alloc: Global, layout: &Layout) -> Result<Sidings, AllocError>
         ensures { IfOk result (λ sidings. sidings ≡ empty_sidings layout.now) }

@@ -38,7 +38,7 @@ word-lt test (suc n) = more (test (suc n)) n (word_of test n) (word-lt test n)
     more true n w h = omega arith
     more false n w h = omega arith
 
--- the bit of a stage is the test of it
+-- the bit of a stage is the result of its test
 pub word-bit : (test : ℕ → Bool) (n k : ℕ) → k < n → has_bit (word_of test n) k ≡ test (suc k)
 unfolding word_of has_bit
 word-bit test zero k h = absurd (omega arith)

@@ -11,7 +11,7 @@ use Rattle.cf_layout.specs.Words.{has_bit}
 use Rattle.cf_stages.specs.Words.{with_bit}
 use Rattle.cf_stages.proofs.Bits.{bit-other, bit-same, same-words, with_bit-lt}
 
--- a word in which the bit is already as it is put
+-- a word in which the bit already has this value
 pub bit-kept : (w k : ℕ) (b : Bool) → k < 32 → w < 2 ^ 32 → has_bit w k ≡ b → with_bit w k b ≡ w
 bit-kept w k b small less is = same-words (with_bit w k b) w (with_bit-lt w k b small less) less (λ j below. bit j (nat_eq j k) refl below)
   where

@@ -17,7 +17,7 @@ use Rattle.cf_bind.specs.contracts.passenger.EndPartialEq.TheImpl.{eq-value as e
 use Rattle.cf_bind.specs.declared.passenger.Passenger.{Passenger}
 use Rattle.cf_bind.specs.contracts.passenger.PassengerPartialEq.TheImpl.{eq-value as passenger_eq}
 
--- where it decides for a type, it does so for its options
+-- if it decides for a type, it decides for the options of that type
 pub option_decides : {X : Type 0} {E : X → X → Bool} → ((a b : X) → Decides (E a b) (a ≡ b)) → (o p : Option X) → Decides (option_eq E o p) (o ≡ p)
 option_decides decides None None = (λ _. refl, λ _. refl)
 option_decides decides None (Some b) = (λ t. absurd (cc), λ e. absurd (cc))

@@ -66,7 +66,7 @@ empty-parts n least most =
 
 pub ruleset emptying = (empty-cells, empty-parts)
 
--- where a word is 0 its test holds nowhere
+-- if a word is 0, its test holds nowhere
 none_at : (test : Cell → Bool) (cells : List Cell) (k : ℕ) (d : Cell) → length cells ≤ 32 → word_where test cells ≡ 0 → k < length cells →
     test (get_or cells k d) ≡ false
 none_at test cells k d few e within =
@@ -78,7 +78,7 @@ pub none-occupied : (cells : List Cell) → length cells ≤ 32 → passenger_wo
 none-occupied cells few e f = list_any_none is_occupied cells
     (λ k d within. rw (none_at (λ c. is_some c.passenger) cells k d few e within, none_at (λ c. is_some c.packet) cells k d few f within) refl)
 
--- where a test holds nowhere its word is 0
+-- if a test holds nowhere, its word is 0
 nowhere_from : (test : Cell → Bool) (cells : List Cell) → list_any test cells ≡ false → (j : ℕ) → on (cell_at cells j) false test ≡ false
 nowhere_from test cells e zero = refl
 nowhere_from test [] e (suc k) = refl

@@ -57,7 +57,7 @@ agree_put ps ps1 qs qs1 riding flying met riding1 flying1 met1 i c h low within 
       met_bits = m ∙ ap (λ (w : ℕ). with_bit w (i - 1) c.met) h.met_bits ∙ sym (put (λ d. d.met)) ∙ ap (word_where (λ d. d.met)) (sym is);
     }
 
--- a word in which the bit of a stage already says what is put there
+-- a word is unchanged if the bit of the stage already is what is put there
 bit_kept : (test : Cell → Bool) (cells : List Cell) (i w : ℕ) (b c : Cell) → 0 < i → i ≤ length cells → length cells ≤ 32 → cell_at cells i ≡ Some b →
     test c ≡ test b → w ≡ word_where test cells → w ≡ with_bit w (i - 1) (test c)
 bit_kept test cells i w b c low within few here same is =
@@ -77,7 +77,7 @@ stood ps qs met i low within same =
     let q = there qs (i - 1) (omega arith) in
     record { rider = p.value; result = q.value; rides = p.is; flies = q.is; here = cell-parts ps qs met i p.value q.value low p.is q.is }
 
--- the stages with one changed, where it exists
+-- the stages with one changed, if it exists
 changed_there : (cells : List Cell) (i : ℕ) (c : Cell) (f : Cell → Cell) → cell_at cells i ≡ Some c → changed cells i f ≡ put_cell cells i (f c)
 changed_there cells i c f here = rw here refl
 

@@ -19,7 +19,7 @@ use Rattle.cf_stages.proofs.Cells.{cell-in}
 use Rattle.cf_stages.proofs.Kept.{count-read, few-read, passenger-parts, passenger-placed, passenger-read, packet-parts, packet-placed, packet-read, pipes-read}
 use Rattle.cf_stages.proofs.Neighbours.{climbed-is, climbs-high, climbs-low, climbs-rider, climbs-room, fallen-is, falls-low, falls-result, falls-room, falls-within}
 
--- what was read does not depend on what would be read where there is no entry
+-- what was read does not depend on the value that is used if there is no entry
 read_any : {A : Type 0} (xs : List A) (k : ℕ) (x y : A) → k < length xs → slice_index_or xs k x ≡ slice_index_or xs k y
 read_any xs k x y within =
     let a = slice_get-get_or xs k x within in

@@ -18,7 +18,7 @@ put_twice : (cells : List Cell) (i : ℕ) (c d : Cell) → put_cell (put_cell ce
 put_twice cells zero c d = refl
 put_twice cells (suc k) c d = set-set cells k c d
 
--- the instruction that has met the result is what meeting it makes of the one that is there
+-- the instruction that has met the result is what the meeting makes of the one that was there
 pub rider-met-is : (cells : List Cell) (i : ℕ) (p q : Passenger) (k : Packet) → Some p ≡ passenger_at cells i → q ≡ (meeting p k).passenger →
     changed cells i (λ c. with_passenger c q) ≡ changed cells i (rider_met k)
 rider-met-is cells i p q k rides e = by (cell_at cells i) rides
@@ -32,7 +32,7 @@ pub left-is : (cells : List Cell) (i : ℕ) (p : Passenger) (k : Packet) (left :
     left ≡ on (passenger_at cells i) None (λ r. (meeting r k).packet)
 left-is cells i p k left rides e = rw (← rides) e
 
--- and then the stage holds it and what is left of the result
+-- the stage then holds it and what is left of the result
 met_there : (cells : List Cell) (i : ℕ) (b : Cell) (k : Packet) (left : Option Packet) (met : Bool) (o : Option Passenger) → cell_at cells i ≡ Some b →
     b.passenger ≡ o → IsTrue (is_some o) → b.packet ≡ Some k →
     left ≡ on o None (λ r. (meeting r k).packet) → met ≡ is_some left →

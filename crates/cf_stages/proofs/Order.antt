@@ -38,7 +38,7 @@ stacked-from i [] = refl
 stacked-from i (c ∷ cells) =
     rw (map-append stage_content (column_from (suc i) cells) (items i c), stacked-from (suc i) cells, same_order i c.met c.passenger c.packet) refl
 
--- two neighbours are changed so that together they hold what they held
+-- two neighbours are changed in such a way that together they hold what they held before
 abbrev SamePair : Cell → Cell → Cell → Cell → Type 0
 SamePair c d c1 d1 = inside d1 ++ inside c1 ≡ inside d ++ inside c
 

@@ -136,7 +136,7 @@ word-put test cells (suc k) c low within few =
     let h = ap (λ (o : Option Cell). with_bit (word_of (tests cells) (length cells)) k (on o false test)) (cell-put cells (suc k) c low within) in
     rw z (n ∙ e ∙ h)
 
--- the same word, where the test says the same
+-- the same word, if the test says the same
 abbrev tested : (Cell → Bool) → List Cell → ℕ → Bool
 tested test cells j = on (cell_at cells j) false test
 

@@ -10,7 +10,7 @@ use Rattle.cf_semantics.specs.moves.Bars.{is_full}
 use Rattle.cf_bind.specs.Meeting.{meeting}
 use Rattle.cf_semantics.specs.moves.Moves.{with_passenger, without_passenger, without_packet, cell_met}
 
--- an instruction and a result have met only where both are there
+-- an instruction and a result have met only if both are there
 abbrev pub IsCell : Cell → Type 0
 IsCell c = IsTrue c.met → IsTrue (is_some c.passenger && is_some c.packet)
 

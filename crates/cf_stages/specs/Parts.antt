@@ -7,8 +7,8 @@ use Rattle.cf_layout.specs.Words.{has_bit}
 use Rattle.cf_stages.specs.Changes.{IsCell}
 use Rattle.cf_stages.specs.Words.{passenger_word, packet_word, met_word}
 
--- the contents of the stages from a given one on: the instruction and the result of each, which have met where the bit
--- is set
+-- the contents of the stages from a given one on: the instruction and the result of each, which have met if the bit is
+-- set
 unfoldable pub cells_from : ℕ → List (Option Passenger) → List (Option Packet) → ℕ → List Cell
 cells_from k [] packets met = []
 cells_from k (p ∷ passengers) [] met = []

@@ -66,7 +66,7 @@ impl Stages {
         self.place_passenger(1, Some(passenger));
     }
 
-    /// Puts a result into the stage. Where `met` is set, an instruction is there, which it has met.
+    /// Puts a result into the stage. If `met` is set, an instruction is there, which it has met.
     #[inline(always)]
     pub fn put_packet(&mut self, i: u32, packet: Packet, met: bool)
         requires above { 0 < i }

@@ -37,7 +37,7 @@ impl Model for Stages {
 }
 
 impl Stages {
-    /// This many empty stages, from 2 to 32; or an error where there is no memory for them.
+    /// This many empty stages, from 2 to 32; or an error if there is no memory for them.
     #[tactic(auto, using(crate::proofs::Empty::emptying))]
     pub fn new(alloc: Global, count: u32) -> Result<Stages, AllocError>
         requires few { 2 ≤ count }

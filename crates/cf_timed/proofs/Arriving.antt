@@ -1,4 +1,4 @@
--- Where a timed run has arrived: its picks are those that finish earliest, and the clock has recorded its moves.
+-- The state of a timed run on its way: its picks are those that finish earliest, and the clock has recorded its moves.
 use Rattle.std.proofs.Common.{◌≡◌, ◌∙◌, refl, sym, ap, subst, ℕ, suc, ◌+◌, ◌*◌, ◌^◌, ◌<◌, ◌≤◌, List, [], ◌∷◌, ◌++◌, length, arith, append-nil, append_assoc}
 use Rattle.std.specs.List.{AllByRecursion}
 use Rattle.run_options.specs.declared.guess_rule.GuessRule.{GuessRule}
@@ -23,7 +23,7 @@ use Rattle.cf_timed.proofs.Following.{AreKept, Follows, delay_follows, finish_fo
 use Rattle.cf_timed.proofs.Leasts.{least-same}
 use Rattle.cf_timed.proofs.Room.{offered_kept}
 
--- where a run is after some moves
+-- the state of a run after some moves
 abbrev pub turn_after : Plan → DelayRule → TimedTurn → List Made → TimedTurn
 turn_after plan rule t [] = t
 turn_after plan rule t (made ∷ trace) = turn_after plan rule (after_turn plan rule t made) trace
@@ -40,7 +40,7 @@ unfolding timed_after
 timed-there plan rule t [] = refl
 timed-there plan rule t (made ∷ trace) = timed-there plan rule (after_turn plan rule t made) trace
 
--- one more pick, and one more move by it
+-- one more pick, and the move that is made by it
 pub tried-last : (r : GuessRule) (plan : Plan) (rule : DelayRule) (t : TimedTurn) (picks : List ℕ) (trace : List Made) (place : ℕ) →
     AreEarliest r plan rule t picks trace → length picks ≡ length trace → place ≡ earliest r plan rule (turn_after plan rule t trace) →
     AreEarliest r plan rule t (picks ++ place ∷ []) trace
@@ -89,7 +89,7 @@ text-after {W} noted text plan rule t w (first ∷ trace) made =
     (turn_after plan rule (after_turn plan rule t first) trace).earlier (delayed_at rule (turn_after plan rule (after_turn plan rule t first) trace).state
     (turn_after plan rule (after_turn plan rule t first) trace).earlier made.move))))
 
--- a watcher after a turn, and what it has written: the text of a move by the clock comes last
+-- a watcher after a turn, and what it has written: the text of the last move, by the clock, comes last
 pub watcher-more : {W : Type 0} (noted : W → Made → TimedMove → W) (plan : Plan) (rule : DelayRule) (begin turn : TimedTurn) (first watcher next : W)
     (trace : List Made) (made : Made) (done : TimedMove) → turn ≡ turn_after plan rule begin trace →
     done ≡ done_after plan turn.earlier (delayed_at rule turn.state turn.earlier made.move) → watcher ≡ watched noted plan rule begin first trace →
@@ -140,7 +140,7 @@ each_capped plan rule t clock [] few h early kept = tt
 each_capped plan rule t clock (mv ∷ moves) few h early kept =
     (capped-is plan rule t clock mv few h early kept.0, each_capped plan rule t clock moves few h early kept.1)
 
--- so the clock picks what finishes earliest
+-- so the clock picks the move that finishes earliest
 pub pick-is : (r : GuessRule) (plan : Plan) (rule : DelayRule) (t : TimedTurn) (clock : SiteTimes) (held : ℕ) → IsAccepted plan → AreDelays rule.spans →
     Follows plan rule t.earlier clock → greatest_time t.earlier + 1000 < 2 ^ 64 → held ≡ stopped plan.stages t.count →
     first_least (capped (clocked clock t.state)) (offered_by r plan held t.state) ≡ earliest r plan rule t
@@ -161,7 +161,7 @@ timed-is plan rule t clock mv few h early kept =
     ap (λ (n : ℕ). done_at (delayed mv n) (capped (clocked clock t.state) mv)) d
     ∙ ap (λ (n : ℕ). done_at (delayed mv (delay_at rule t.state t.earlier mv)) n) c
 
--- the moves so far, made from there by these picks, lead to this turn, and the clock has recorded them
+-- the moves so far, made by these picks, lead to this turn, and the clock has recorded them
 pub record SoFar (r : GuessRule) (plan : Plan) (rule : DelayRule) (begin : TimedTurn) (picks : List ℕ) (trace : List Made) (turn : TimedTurn)
     (clock : SiteTimes) : Type 0 where
   pub turn_is : turn ≡ turn_after plan rule begin trace

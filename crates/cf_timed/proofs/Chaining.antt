@@ -1,4 +1,4 @@
--- The greatest time of a run is the sum of the delays of a chain of it, and no chain has a greater sum.
+-- The maximum time of a run is the sum of the delays of a chain of it, and no chain has a larger sum.
 use Rattle.std.proofs.Common.{◌≡◌, ◌∙◌, refl, sym, ap, subst, ℕ, ◌+◌, ◌≤◌, ◌⊎◌, inl, inr, List, [], ◌∷◌, ◌++◌, max, Bool, true, false, cond, arith, append-nil, append_assoc}
 use Rattle.std.specs.Prelude.{filter}
 use Rattle.cf_layout.specs.Layout.{Plan}
@@ -10,7 +10,7 @@ use Rattle.cf_timed.specs.Times.{DelayedMove, before, delayed, done_at, done_aft
 use Rattle.cf_timed.specs.Chains.{AreLinked, ArePart, IsChain, IsLongest, sum_of_delays}
 use Rattle.cf_timed.proofs.Greatest.{where_more, where_none}
 
--- sharing goes both ways
+-- sharing a site is symmetric
 pub shares_turned : (plan : Plan) (a b : Move) → shares plan a b ≡ true → shares plan b a ≡ true
 shares_turned plan a b e = let x = shared_place plan a b e in shared_at plan b a x.0 x.2 x.1
 
@@ -28,7 +28,7 @@ part_last (p ∷ part) [] move h = absurd h
 part_last (p ∷ part) (first ∷ moves) move (inl h) = inl (h.0, part_last part moves move h.1)
 part_last (p ∷ part) (first ∷ moves) move (inr h) = inr (part_last (p ∷ part) moves move h)
 
--- a chain that ends with a move, and a next one that shares a site with that
+-- a chain that ends with a move, and a next move that shares a site with it
 pub linked_last : (plan : Plan) (chain : List DelayedMove) (last move : DelayedMove) → AreLinked plan (chain ++ last ∷ []) →
     shares plan last.mv move.mv ≡ true →
     AreLinked plan ((chain ++ last ∷ []) ++ move ∷ [])
@@ -36,7 +36,7 @@ linked_last plan [] last move h e = (e, tt)
 linked_last plan (c ∷ []) last move h e = (h.0, (e, tt))
 linked_last plan (c ∷ d ∷ chain) last move h e = (h.0, linked_last plan (d ∷ chain) last move h.1 e)
 
--- the sum of no delays, of one and some, and of some and one more
+-- the sum of no delays, of one delay and others, and of others and one delay
 pub sum_none : sum_of_delays [] ≡ 0
 unfolding sum_of_delays
 sum_none = refl
@@ -50,14 +50,14 @@ unfolding sum_of_delays
 sum_last [] move = omega arith
 sum_last (m ∷ moves) move = let r = sum_last moves move in omega (arith, r)
 
--- a chain of the moves that ends with this one at this time
+-- a chain of the moves that ends with this move at this time
 record EndsAt (plan : Plan) (moves : List DelayedMove) (move : DelayedMove) (time : ℕ) : Type 0 where
   front : List DelayedMove
   part : ArePart (front ++ move ∷ []) moves
   linked : AreLinked plan (front ++ move ∷ [])
   is : sum_of_delays (front ++ move ∷ []) ≡ time
 
--- there is such a chain for each of the moves with their times
+-- each of the moves with their times has such a chain
 abbrev AllEnd : Plan → List DelayedMove → List TimedMove → Type 0
 AllEnd plan moves [] = Unit {0}
 AllEnd plan moves (done ∷ earlier) = EndsAt plan moves (delayed done.mv done.delay) done.time × AllEnd plan moves earlier
@@ -70,7 +70,7 @@ all_more plan moves move (done ∷ earlier) h = (
   all_more plan moves move earlier h.1,
 )
 
--- the latest of those that pass a test, if any does
+-- the latest of the moves that pass a test, if any does
 record Latest (plan : Plan) (moves : List DelayedMove) (test : Move → Bool) (time : ℕ) : Type 0 where
   move : DelayedMove
   passes : test move.mv ≡ true
@@ -139,7 +139,7 @@ pub always : (moves : List TimedMove) → filter (λ done. true) moves ≡ moves
 always [] = refl
 always (done ∷ moves) = ap (λ (l : List TimedMove). done ∷ l) (always moves)
 
--- one more move lowers no greatest time
+-- one more move does not lower the maximum time
 time_grows : (test : TimedMove → Bool) (done : TimedMove) (moves : List TimedMove) →
     greatest_time (filter test moves) ≤ greatest_time (filter test (done ∷ moves))
 time_grows test done moves = let e = where_more test done moves in omega (arith, e)
@@ -155,7 +155,7 @@ own_time done moves = omega arith
 passing_time : (test : TimedMove → Bool) (done : TimedMove) (moves : List TimedMove) → test done ≡ true → done.time ≤ greatest_time (filter test (done ∷ moves))
 passing_time test done moves e = let w = where_more test done moves in let z : cond (test done) done.time 0 ≡ done.time = rw e refl in omega (arith, w, z)
 
--- the time that a chain has reached is at most that for which its next move waits
+-- the time that a chain has reached is at most the time for which its next move waits
 abbrev IsReady : Plan → List TimedMove → ℕ → List DelayedMove → Type 0
 IsReady plan earlier s [] = Unit {0}
 IsReady plan earlier s (move ∷ chain) = s ≤ greatest_time (before plan move.mv earlier)
@@ -181,7 +181,7 @@ waits : (plan : Plan) (earlier : List TimedMove) (move : DelayedMove) (s : ℕ) 
 unfolding finish_after
 waits plan earlier move s h = omega (arith, h)
 
--- no chain has a greater sum
+-- no chain has a larger sum
 most_of : (plan : Plan) (earlier : List TimedMove) (rest chain : List DelayedMove) (s : ℕ) → s ≤ greatest_time earlier → IsReady plan earlier s chain →
     ArePart chain rest → AreLinked plan chain → s + sum_of_delays chain ≤ greatest_time (times_after plan earlier rest)
 most_of plan earlier [] [] s most ready part linked = let z = sum_none in omega (arith, z)
@@ -204,7 +204,7 @@ most_of plan earlier (move ∷ rest) (c ∷ chain) s most ready (inl h) linked =
     let q = ap (λ (x : DelayedMove). sum_of_delays (x ∷ chain)) same in
     omega (arith, r, e, q)
 
--- the greatest time of a run is that of its longest chain
+-- the maximum time of a run is that of its longest chain
 pub longest : (plan : Plan) (moves : List DelayedMove) → IsLongest plan moves (greatest_time (moves_with_times plan moves))
 unfolding moves_with_times
 longest plan moves = by (latest_of plan moves (λ move. true) (times_after plan [] moves) (all_ends plan [] [] moves tt))

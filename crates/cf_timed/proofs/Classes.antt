@@ -1,4 +1,4 @@
--- Past the last stage nothing stands.
+-- There is no instruction past the last stage.
 use Rattle.std.proofs.Common.{◌≡◌, refl, ℕ, zero, suc, ◌<◌, ◌≤◌, List, [], ◌∷◌, length, None, arith}
 use Rattle.std.specs.Prelude.{slice_get}
 use Rattle.cf_bind.specs.declared.cell.Cell.{Cell}

@@ -12,7 +12,7 @@ use Rattle.cf_semantics.specs.moves.Candidates.{counted_from}
 use Rattle.cf_timed.specs.Delays.{AreDelays, IsSpan, one_tick, span_count}
 use Rattle.cf_timed.specs.DelayLines.{delays_in, filled, kind_of_slot, lines_told, span_told, told_at, unnamed}
 
--- at the end of the text
+-- the delays at the end of the text
 pub told_at_end : (text rest : List ℕ) (above : ℕ) (named : List (Option Span)) → length rest ≡ 0 →
     lines_told above named (text_lines rest) ≡ lines_told 0 unnamed (text_lines text) → Ok (filled named) ≡ delays_in text
 unfolding delays_in
@@ -20,17 +20,17 @@ told_at_end text rest above named none same =
     let e : Ok named ≡ lines_told 0 unnamed (text_lines text) = sym (ap (lines_told above named) (no_lines rest none)) ∙ same in
     ap (λ (o : Result (List (Option Span)) DelayErr). and_then o (λ told. Ok (filled told))) e
 
--- before the first line nothing was told
+-- before the first line no delay was given
 pub none_told : All (λ span. IfSome span IsSpan) unnamed
 none_told = All-replicate (λ (span : Option Span). IfSome span IsSpan) span_count None tt
 
--- what was told there is a range
+-- a delay that was given is a range
 told_span : (told : List (Option Span)) (slot : ℕ) → All (λ span. IfSome span IsSpan) told → IfSome (told_at told slot) IsSpan
 told_span [] slot h = tt
 told_span (t ∷ told) zero h = h 0 t (omega arith)
 told_span (t ∷ told) (suc slot) h = told_span told slot (λ k d within. h (suc k) d (omega (arith, within)))
 
--- so each delay is one
+-- so each delay is a range
 pub span_told_is : (told : List (Option Span)) (slot : ℕ) → All (λ span. IfSome span IsSpan) told → IsSpan (span_told told slot)
 unfolding span_told
 span_told_is told slot h = by (told_at told slot) (told_at told (kind_of_slot slot)) (told_span told slot h) (told_span told (kind_of_slot slot) h)

@@ -26,7 +26,7 @@ pub is_span : (spans : List Span) (mv : Move) (class : Class) → AreDelays span
 unfolding span_of
 is_span spans mv class h = span_at spans (slot_of mv class) h.each
 
--- which a word does not leave
+-- the ticks that a word chooses are within the range
 pub ticks_few : (span : Span) (word : Option ℕ) → IsSpan span → ticks_in span word ≤ 1000
 unfolding ticks_in
 ticks_few span None (low, between, high) = omega (arith, low, between, high)

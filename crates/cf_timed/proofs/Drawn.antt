@@ -1,4 +1,4 @@
--- A clock that has recorded some moves draws, for a further move, the next word of its stream.
+-- For a further move a clock that has recorded some moves draws the next word of the move's stream.
 use Rattle.std.proofs.Common.{◌≡◌, ◌∙◌, refl, sym, ap, subst, ℕ, zero, suc, ◌<◌, List, [], ◌∷◌, length, Bool, true, false, cond, nat_eq, arith}
 use Rattle.std.specs.Prelude.{◌==◌, filter, slice_set, Option, Some, None}
 use Rattle.std.proofs.lemmas.Bool.Decides.{nat_tests}
@@ -45,7 +45,7 @@ generator_next seed stream n state e =
     ap (state_next 64 multiplier_64 (increment_of 64 stream)) e
     ∙ sym (step_last 64 multiplier_64 (increment_of 64 stream) n (started 64 multiplier_64 seed (increment_of 64 stream)).state)
 
--- a number that was put, and the others
+-- a number that was set, and the others
 pub number_put : (xs : List ℕ) (i j t : ℕ) → i < length xs → number_at (slice_set xs i t) j ≡ cond (nat_eq j i) t (number_at xs j)
 number_put [] i j t within = absurd (omega arith)
 number_put (x ∷ xs) zero zero t within = refl

@@ -1,4 +1,4 @@
--- Two neighbouring moves of a run that share no site are a run in the other order too.
+-- Two neighbouring moves of a run that share no site form a run in the other order too.
 use Rattle.std.proofs.Common.{◌≡◌, ◌∙◌, refl, sym, ap, subst, ℕ, zero, suc, List, [], ◌∷◌, ◌++◌, map, replicate, length, Bool, true, false, Option, None, arith}
 use Rattle.std.specs.Prelude.{slice_get, unwrap_or}
 use Rattle.rv_machine.specs.Machine.{Machine}
@@ -29,7 +29,7 @@ use Rattle.cf_timed.proofs.Following.{moves_kept}
 use Rattle.cf_timed.proofs.Streams.{stream_shared}
 use Rattle.cf_timed.proofs.Swapping.{swapped, timed-front}
 
--- moves, and then others
+-- moves, followed by others
 pub run-after : (plan : Plan) (m : Moment) (front rest : List Move) → run plan m (front ++ rest) ≡ run plan (run plan m front) rest
 unfolding run
 run-after plan m [] rest = refl
@@ -50,7 +50,7 @@ unfolding IsRun run
 allowed-both plan m [] rest h g = g
 allowed-both plan m (mv ∷ front) rest h g = (h.0, allowed-both plan (next plan m mv) front rest h.1 g)
 
--- each siding keeps its cells
+-- each siding keeps its number of cells
 sidings-run : (plan : Plan) (m : Moment) (moves : List Move) → IsRun plan m moves → HasSidings plan m.state → HasSidings plan (run plan m moves).state
 unfolding IsRun run
 sidings-run plan m [] h s = s
@@ -127,14 +127,14 @@ class_kept plan m mv other free apart = by other apart
     by Exit apart = refl
     by Serve apart = refl
 
--- the moves of a run in their states, and then others
+-- the moves of a run in their states, followed by others
 visits-after : (plan : Plan) (m : Moment) (front rest : List Move) →
     visits_from plan m (front ++ rest) ≡ visits_from plan m front ++ visits_from plan (run plan m front) rest
 unfolding run
 visits-after plan m [] rest = refl
 visits-after plan m (mv ∷ front) rest = ap (λ (l : List Visit). visit m.state mv ∷ l) (visits-after plan (next plan m mv) front rest)
 
--- two of them at one moment
+-- two moves that are exchanged at one moment
 record Exchanged (plan : Plan) (m : Moment) (a b : Move) (rest : List Move) : Type 0 where
   allowed : IsRun plan m (b ∷ a ∷ rest)
   leads : next plan (next plan m b) a ≡ next plan (next plan m a) b

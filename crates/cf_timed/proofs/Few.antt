@@ -1,4 +1,4 @@
--- What a timed run has made: few moves, each within the room of the clock and none of more than 1,000 ticks.
+-- The moves of a timed run are few, the clock has room for the sites of each, and none takes more than 1,000 ticks.
 use Rattle.std.proofs.Common.{◌≡◌, ap, sym, subst, ℕ, ◌+◌, ◌-◌, ◌*◌, ◌^◌, ◌<◌, ◌≤◌, List, [], ◌∷◌, length, Option, arith}
 use Rattle.std.specs.List.{AllByRecursion}
 use Rattle.run_options.specs.Limits.{most_timed_limit}
@@ -27,7 +27,7 @@ use Rattle.cf_timed.proofs.Delaying.{delay_few}
 use Rattle.cf_timed.proofs.Following.{AreKept}
 use Rattle.cf_timed.proofs.Room.{offered_kept, one_of_all}
 
--- no more instructions than the limit retire in a run
+-- in a run at most as many instructions retire as the limit allows
 leads-within : (plan : Plan) (limit : ℕ) (told_is : Option (List ℕ)) (m : Moment) (trace : List Made) (last : Moment) → Leads plan limit told_is m trace last →
     m.state.retired ≤ limit → last.state.retired ≤ limit
 unfolding Leads
@@ -43,7 +43,7 @@ reached-within limit begin now h within =
     let l = leads-within begin.core.plan limit begin.streams.input (moment_of begin.core h.rest) h.trace h.last h.leads within in
     subst (λ (p : Processor). p.state.retired ≤ limit) (sym h.core) l
 
--- so few moves are made that no time is beyond 64 bits
+-- so few moves are made that no time exceeds 64 bits
 pub moves-few : (r : GuessRule) (limit : ℕ) (begin now : RunPlace) (picks : List ℕ) (last : Chooser (List ℕ)) → IsAccepted begin.core.plan →
     length begin.core.state.regs ≡ 32 → CanRunTimed limit begin.core → (reached : Reaches limit show.report begin now) →
     Picks first_pick later_picks begin.core.plan (fresh_chooser r picks) begin.core.state reached.trace last → 1000 * (length reached.trace + 1) < 2 ^ 64
@@ -57,7 +57,7 @@ moves-few r limit begin now picks last acc wide can reached picked =
     let c : now.tally.moves ≡ length reached.trace = ap (λ (t : Tally). t.moves) reached.tally in
     omega (arith, b, g, n, c)
 
--- the clock has room for the sites of each
+-- the clock has room for the sites of each move
 kept-trace : (plan : Plan) (at : Chooser (List ℕ)) (s : State) (trace : List Made) (last : Chooser (List ℕ)) → IsAccepted plan →
     Picks first_pick later_picks plan at s trace last → AllByRecursion (AreKept plan) (moves_of trace)
 unfolding Picks
@@ -78,7 +78,7 @@ pub moves-kept : (plan : Plan) (rule : DelayRule) (at last : Chooser (List ℕ))
     Picks first_pick later_picks plan at s trace last → AllByRecursion (λ d. AreKept plan d.mv) (delays_after plan rule [] (visits_of s trace))
 moves-kept plan rule at last s trace acc picks = kept-delays plan rule [] s trace (kept-trace plan at s trace last acc picks)
 
--- none takes more than 1,000 ticks
+-- no move takes more than 1,000 ticks
 pub delays-short : (plan : Plan) (rule : DelayRule) (earlier : List TimedMove) (visits : List Visit) → AreDelays rule.spans →
     AllByRecursion (λ d. d.delay ≤ 1000) (delays_after plan rule earlier visits)
 delays-short plan rule earlier [] few = tt

@@ -1,4 +1,4 @@
--- A clock that has recorded some moves of a run has for each site the greatest time of those that use it.
+-- A clock that has recorded some moves of a run has, for each site, the maximum time of the moves that use it.
 use Rattle.std.proofs.Common.{◌≡◌, ◌∙◌, refl, sym, ap, subst, ℕ, zero, suc, ◌+◌, ◌<◌, ◌≤◌, List, [], ◌∷◌, length, map, max, Bool, true, false, cond, nat_eq, arith}
 use Rattle.std.specs.Prelude.{Option, Some, None, replicate, slice_set, ◌&&◌, ◌||◌}
 use Rattle.std.specs.List.{AllByRecursion}
@@ -44,7 +44,7 @@ pub record HasRoom (c : SiteTimes) : Type 0 where
   pub sidings : length c.cells ≡ 8
   pub cells : (k : ℕ) → k < 8 → length (siding_row c.cells k) ≡ 8
 
--- the greatest time of the moves that use the site
+-- the maximum time of the moves that use the site
 abbrev pub last_at : Plan → List TimedMove → Site → ℕ
 last_at plan moves x = greatest_where (λ done. uses_place plan done.mv x) moves
 
@@ -121,7 +121,7 @@ cell_put rows k i m j t within inside = ap (λ (row : List ℕ). number_at row j
     by true e = let q : m ≡ k = grind (arith, nat_tests) in rw q (number_put (siding_row rows k) i j t inside)
     by false e = refl
 
--- the time of a site after one was put
+-- the time of a site after one time was set
 pub time_put : (c : SiteTimes) (t : ℕ) (y x : Site) → HasRoom c → IsKept y → IsKept x → time_at (put_time c t y) x ≡ cond (same_site x y) t (time_at c x)
 time_put c t (Stage i) (Stage j) room ky kx = number_put c.stages i j t (omega (arith, room.stages, ky))
 time_put c t (SidingCell k i) (SidingCell m j) room ky kx = cell_put c.cells k i m j t (omega (arith, room.sidings, ky.0))
@@ -162,7 +162,7 @@ time_put c t Code Memory room ky kx = refl
 time_put c t Code Code room ky kx = refl
 time_put c t _ _ room ky kx = absurd (search kx)
 
--- what is put leaves the room
+-- setting a time leaves the room unchanged
 room_put : (c : SiteTimes) (t : ℕ) (y : Site) → HasRoom c → IsKept y → HasRoom (put_time c t y)
 room_put c t (Stage i) room kept = record { stages = size c.stages i t ∙ room.stages; sidings = room.sidings; cells = room.cells }
   where
@@ -195,7 +195,7 @@ room_put c t Memory room kept = record { stages = room.stages; sidings = room.si
 room_put c t Code room kept = record { stages = room.stages; sidings = room.sidings; cells = room.cells }
 room_put c t _ room kept = absurd (search kept)
 
--- what is put at each of some sites
+-- a time that is set at each of several sites
 pub times_put : (c : SiteTimes) (t : ℕ) (ys : List Site) (x : Site) → HasRoom c → AllByRecursion IsKept ys → IsKept x →
     time_at (put_times c t ys) x ≡ cond (among x ys) t (time_at c x)
 times_put c t [] x room kept here = refl
@@ -214,7 +214,7 @@ pub room_times : (c : SiteTimes) (t : ℕ) (ys : List Site) → HasRoom c → Al
 room_times c t [] room kept = room
 room_times c t (y ∷ ys) room kept = room_times (put_time c t y) t ys (room_put c t y room kept.0) kept.1
 
--- a site that is used is no later than the latest of those that are
+-- the time of a site that is used is at most the latest of those that are
 reaches : (f : Site → ℕ) (x : Site) (xs : List Site) → among x xs ≡ true → f x ≤ greatest (map f xs)
 reaches f x [] e = absurd (cc)
 reaches f x (y ∷ ys) e = by (same_site x y) refl (reaches f x ys)
@@ -238,7 +238,7 @@ place_more plan moves c d t x room kept here before_is late =
     by true e = let g = late e in omega (arith, g)
     by false e = omega arith
 
--- one more move has the latest time, or not
+-- whether or not one more move has the latest time
 latest_more : (moves : List TimedMove) (d : DelayedMove) (t : ℕ) → max (greatest_time moves) t ≡ greatest_time (done_at d t ∷ moves)
 unfolding greatest_time
 latest_more moves d t = omega arith
@@ -252,7 +252,7 @@ no_later plan moves d x e =
     let a = where_any (λ y done. uses_place plan done.mv y) (used plan d.mv) moves in
     omega (arith, r, a)
 
--- the seed stays
+-- the seed is unchanged
 seed_kept : (c : SiteTimes) (mv : Move) → (drawing c mv).draws.seed ≡ c.draws.seed
 unfolding after_word
 seed_kept c mv = by c.draws.seed refl
@@ -308,7 +308,7 @@ follows_start plan rule = record {
   times_are = started_at plan rule;
 }
 
--- what the layout has, the clock has room for
+-- the clock has room for every site that the layout has
 there_kept : (plan : Plan) (x : Site) → IsAccepted plan → is_other x ≡ false → LayoutHasSite plan x → IsKept x
 there_kept plan (Stage i) a o h = omega (arith, a.stages.1, h.1)
 there_kept plan (SidingCell k c) a o h = let w = siding_within plan k a h.0 in (w.2, omega (arith, w.1, h.1))

@@ -1,11 +1,11 @@
--- The greatest time of those moves that pass one test or another.
+-- The maximum time of the moves that pass one test or another.
 use Rattle.std.proofs.Common.{◌≡◌, ◌∙◌, refl, sym, ap, ℕ, List, [], ◌∷◌, map, max, Bool, true, false, cond, arith}
 use Rattle.std.specs.Prelude.{filter, ◌||◌}
 use Rattle.std.specs.List.{list_any}
 use Rattle.cf_timed.specs.declared.timed_move.TimedMove.{TimedMove}
 use Rattle.cf_timed.specs.Times.{greatest, greatest_time}
 
--- the greatest time of the moves that pass a test
+-- the maximum time of the moves that pass a test
 abbrev pub greatest_where : (TimedMove → Bool) → List TimedMove → ℕ
 greatest_where test moves = greatest_time (filter test moves)
 
@@ -23,7 +23,7 @@ pub where_none : (test : TimedMove → Bool) → greatest_where test [] ≡ 0
 unfolding greatest_time
 where_none test = refl
 
--- a test that nothing passes
+-- a test that no move passes
 pub where_never : (moves : List TimedMove) → greatest_where (λ done. false) moves ≡ 0
 where_never [] = where_none (λ done. false)
 where_never (done ∷ moves) = let r = where_never moves in where_more (λ d. false) done moves ∙ omega (arith, r)
@@ -46,7 +46,7 @@ where_either p q (done ∷ moves) =
     one false true t = omega arith
     one false false t = refl
 
--- the tests of a list, one after the other
+-- the tests of a list, one after another
 pub where_any : {X : Type 0} (test : X → TimedMove → Bool) (xs : List X) (moves : List TimedMove) → greatest (map (λ x. greatest_where (test x) moves) xs)
     ≡ greatest_where (λ done. list_any (λ x. test x done) xs) moves
 where_any test [] moves = sym (where_never moves)

@@ -1,4 +1,4 @@
--- The first of the moves with the least time.
+-- The first of the moves that have the least time.
 use Rattle.std.proofs.Common.{◌≡◌, refl, sym, ℕ, zero, suc, ◌+◌, ◌<◌, ◌≤◌, List, [], ◌∷◌, ◌++◌, length, get_or, Bool, true, false, arith}
 use Rattle.std.specs.Prelude.{nat_le}
 use Rattle.std.specs.List.{AllByRecursion, list_all, position_or_len}
@@ -8,14 +8,14 @@ use Rattle.std.proofs.lemmas.List.Sums.{list_all-from_AllPass, position_or_len_i
 use Rattle.cf_bind.specs.declared.moves.Move.{Move}
 use Rattle.cf_timed.specs.Earliest.{first_least}
 
--- the move at this index is the first whose time is no greater than a number, and no move has a lesser time
+-- the move at this index is the first whose time is at most this number, and no move has a time below it
 pub record IsLeast (time : Move → ℕ) (moves : List Move) (place least : ℕ) : Type 0 where
   pub within : place < length moves
   pub is : (d : Move) → time (get_or moves place d) ≤ least
   pub most : (k : ℕ) (d : Move) → k < length moves → least ≤ time (get_or moves k d)
   pub first : (k : ℕ) (d : Move) → k < place → least < time (get_or moves k d)
 
--- it is the first of the least
+-- it is the first of those with the least time
 pub least-of_all : (time : Move → ℕ) (moves : List Move) (place least : ℕ) (d : Move) → IsLeast time moves place least → place ≡ first_least time moves
 unfolding first_least
 least-of_all time moves place least d h =
@@ -33,7 +33,7 @@ least-of_all time moves place least d h =
     here = list_all-from_AllPass (λ other. nat_le (time (get_or moves place d)) (time other)) moves (λ k e below. let m = h.most k e below in let i = h.is d in
         grind (arith, nat_tests, m, i))
 
--- after a move that is later it is still the least
+-- it still is after a move that is later
 after_one : (time : Move → ℕ) (x : Move) (moves : List Move) (place least : ℕ) → least < time x → IsLeast time moves place least →
     IsLeast time (x ∷ moves) (suc place) least
 after_one time x moves place least later h = record {
@@ -51,7 +51,7 @@ after_one time x moves place least later h = record {
     first zero d before = later
     first (suc k) d before = h.first k d (omega arith)
 
--- and after some that are later
+-- and after several moves that are later
 pub least-after : (time : Move → ℕ) (front moves : List Move) (place least : ℕ) → ((k : ℕ) (d : Move) → k < length front → least < time (get_or front k d)) →
     IsLeast time moves place least →
     IsLeast time (front ++ moves) (length front + place) least
@@ -61,7 +61,7 @@ least-after time (x ∷ front) moves place least later h =
     let e : suc (length front) + place ≡ suc (length front + place) = omega arith in
     rw e (after_one time x (front ++ moves) (length front + place) least (later 0 x (omega arith)) r)
 
--- the first of some moves of one time, where the moves after them are no sooner
+-- the first of several moves with the same time, if no move after them is sooner
 pub least-front : (time : Move → ℕ) (front moves : List Move) (least : ℕ) → 0 < length front →
     ((k : ℕ) (d : Move) → k < length front → time (get_or front k d) ≡ least) → ((k : ℕ) (d : Move) → k < length moves → least ≤ time (get_or moves k d)) →
     IsLeast time (front ++ moves) 0 least
@@ -88,7 +88,7 @@ position_same : (p q : Move → Bool) (moves : List Move) → AllByRecursion (λ
 position_same p q [] same = refl
 position_same p q (mv ∷ moves) same = let h = same.0 in let r = position_same p q moves same.1 in rw (h, r) refl
 
--- what each of some moves passes by what all of them do
+-- a test against all moves gives the same for each move, if the two times agree
 each_same : (f g : Move → ℕ) (all moves : List Move) → AllByRecursion (λ mv. f mv ≡ g mv) all → AllByRecursion (λ mv. f mv ≡ g mv) moves →
     AllByRecursion (λ mv. list_all (λ other. nat_le (f mv) (f other)) all ≡ list_all (λ other. nat_le (g mv) (g other)) all) moves
 each_same f g all [] same here = tt
@@ -101,7 +101,7 @@ each_same f g all (mv ∷ moves) same here = (one, each_same f g all moves same 
     one : list_all (λ other. nat_le (f mv) (f other)) all ≡ list_all (λ other. nat_le (g mv) (g other)) all
     one = all_same (λ other. nat_le (f mv) (f other)) (λ other. nat_le (g mv) (g other)) all (times all same)
 
--- two times that agree on the moves have the same first of the least
+-- for two times that agree on the moves the first move with the least time is the same
 pub least-same : (f g : Move → ℕ) (moves : List Move) → AllByRecursion (λ mv. f mv ≡ g mv) moves → first_least f moves ≡ first_least g moves
 unfolding first_least
 least-same f g moves same = position_same (λ mv. list_all (λ other. nat_le (f mv) (f other)) moves)

@@ -11,7 +11,7 @@ pub numbered_length : {X : Type 0} (f : ℕ → X) (m n : ℕ) → length (map f
 numbered_length f m zero = refl
 numbered_length f m (suc n) = ap suc (numbered_length f (suc m) n)
 
--- the one at an index
+-- the element at an index
 numbered_from : (f : ℕ → ℕ) (m n i : ℕ) → i < n → number_at (map f (counted_from m n)) i ≡ f (m + i)
 numbered_from f m zero i within = absurd (omega arith)
 numbered_from f m (suc n) zero within = ap f (omega arith)
@@ -20,13 +20,13 @@ numbered_from f m (suc n) (suc i) within = numbered_from f (suc m) n i (omega ar
 pub numbered_at : (f : ℕ → ℕ) (n i : ℕ) → i < n → number_at (map f (counted_from 0 n)) i ≡ f i
 numbered_at f n i within = numbered_from f 0 n i within ∙ ap f (omega arith)
 
--- the length of a list of which one is replaced
+-- the length of a list in which one element is replaced
 pub set_length : {X : Type 0} (xs : List X) (i : ℕ) (v : X) → length (slice_set xs i v) ≡ length xs
 set_length [] i v = refl
 set_length (x ∷ xs) zero v = refl
 set_length (x ∷ xs) (suc i) v = ap suc (set_length xs i v)
 
--- an array that is filled from 0 on, one more
+-- one more element of an array that is filled from 0 on
 take_set : {X : Type 0} (xs : List X) (i : ℕ) (v : X) → i < length xs → take (i + 1) (slice_set xs i v) ≡ take i xs ++ v ∷ []
 take_set [] i v within = absurd (omega arith)
 take_set (x ∷ xs) zero v within = refl

@@ -24,7 +24,7 @@ use Rattle.cf_index.specs.Sites.{sidings_where, way_in, way_out, ways_in, ways_o
 use Rattle.cf_index.proofs.SiteWords.{siding_within}
 use Rattle.cf_timed.proofs.Following.{AreKept, IsKept}
 
--- what holds of each of two lists holds of both
+-- what holds of the elements of two lists holds of those of both together
 all_both : {X : Type 0} (P : X → Type 0) (xs ys : List X) → AllByRecursion P xs → AllByRecursion P ys → AllByRecursion P (xs ++ ys)
 all_both P [] ys h g = g
 all_both P (x ∷ xs) ys h g = (h.0, all_both P xs ys h.1 g)
@@ -38,13 +38,13 @@ all_passed P test (x ∷ xs) h = by (test x) (all_passed P test xs h.1)
     by true r = (h.0, r)
     by false r = r
 
--- and of the one at an index
+-- and of the element at an index
 pub one_of_all : {X : Type 0} (P : X → Type 0) (xs : List X) (k : ℕ) (x : X) → AllByRecursion P xs → slice_get xs k ≡ Some x → P x
 one_of_all P [] k x h e = absurd (cc)
 one_of_all P (y ∷ ys) zero x h e = let q : y ≡ x = cc in subst P q h.0
 one_of_all P (y ∷ ys) (suc k) x h e = one_of_all P ys k x h.1 e
 
--- numbers from one on
+-- the numbers from a given one on
 all_counted : {X : Type 0} (P : X → Type 0) (make : ℕ → X) (first n : ℕ) → ((i : ℕ) → first ≤ i → i < first + n → P (make i)) →
     AllByRecursion P (map make (counted_from first n))
 all_counted P make first zero h = tt

@@ -1,4 +1,4 @@
--- A timed run: where it has arrived, one more turn, and the run once it stops.
+-- A timed run: how far it has come, one more turn, and the run once it stops.
 use Rattle.std.proofs.Common.{◌≡◌, ◌≢◌, ◌∙◌, refl, sym, ap, subst, ℕ, ◌+◌, ◌-◌, ◌^◌, ◌<◌, ◌≤◌, List, [], ◌∷◌, ◌++◌, length, Some, None, arith}
 use Rattle.std.specs.Prelude.{slice_get}
 use Rattle.run_options.specs.Limits.{most_limit, most_timed_limit}
@@ -95,7 +95,7 @@ pub record IsBegun (rule : DelayRule) (limit : ℕ) (begin : RunPlace) : Type 0 
   pub delays : AreDelays rule.spans
   pub few : limit ≤ most_timed_limit
 
--- such a limit is a limit of a run
+-- such a limit is also a limit of a run
 timed-allowed : (limit : ℕ) → limit ≤ most_timed_limit → limit ≤ most_limit
 timed-allowed limit few = omega (arith, few)
 
@@ -104,7 +104,7 @@ pub is-begun : (rule : DelayRule) (limit : ℕ) (begin : RunPlace) → IsAccepte
 is-begun rule limit begin accepted wide can delays =
     record { accepted = accepted; wide = wide; is_opened = can.can_run.is_opened; delays = delays; few = can.few }
 
--- so few moves were made that no time is beyond 64 bits
+-- so few moves were made that no time exceeds 64 bits
 pub timed-bounded : (r : GuessRule) (rule : DelayRule) (limit : ℕ) (begin now : RunPlace) (clock : SiteTimes)
     (held : ℕ) → IsBegun rule limit begin → ComesTimed r rule limit begin now clock held →
     now.core.state.retired ≤ limit → now.tally.moves ≤ most_moves begin.core.plan limit
@@ -128,7 +128,7 @@ timed-early r rule limit begin now clock held b c within =
     let y = c.so_far.early in
     omega (arith, m, n, k, y)
 
--- while it goes on a move is offered
+-- while the run goes on, a move is offered
 pub timed-offered : (r : GuessRule) (rule : DelayRule) (limit : ℕ) (begin now : RunPlace) (clock : SiteTimes)
     (held : ℕ) → IsBegun rule limit begin → ComesTimed r rule limit begin now clock held →
     now.core.state.ending ≡ None → 0 < length (offered_by r now.core.plan held now.core.state)
@@ -136,7 +136,7 @@ timed-offered r rule limit begin now clock held b c unended =
     reached-offered r first_pick later_picks limit show.report begin now c.picks (chooser r [] c.turn.count) b.accepted b.wide b.is_opened c.reached c.picked
     unended r held
 
--- and its count fits
+-- and the count of moves fits
 pub timed-counted : (r : GuessRule) (rule : DelayRule) (limit : ℕ) (begin now : RunPlace) (clock : SiteTimes)
     (held : ℕ) → IsBegun rule limit begin → ComesTimed r rule limit begin now clock held →
     now.core.state.retired ≤ limit → now.tally.moves + 1 < 2 ^ 63
@@ -145,7 +145,7 @@ timed-counted r rule limit begin now clock held b c within =
     let s = bound_small begin.core.plan limit b.accepted (timed-allowed limit b.few) in
     omega (arith, m, s)
 
--- by the count that stops the same is offered
+-- with the count of the turn the same moves are offered
 offers-same : (r : GuessRule) (rule : DelayRule) (limit : ℕ) (begin now : RunPlace) (clock : SiteTimes)
     (held : ℕ) → (c : ComesTimed r rule limit begin now clock held) →
     offered_by r now.core.plan held now.core.state ≡ offered_by r now.core.plan c.turn.count now.core.state
@@ -154,7 +154,7 @@ offers-same r rule limit begin now clock held c =
     (c.held_is ∙ ap (λ (p : Plan). stopped p.stages c.turn.count) (sym (same-plan limit begin now c.reached)))
     ∙ offered-stopped r now.core.plan c.turn.count now.core.state
 
--- the clock picks what finishes earliest
+-- the clock picks the move that finishes earliest
 picks-earliest : (r : GuessRule) (rule : DelayRule) (limit : ℕ) (begin now : RunPlace) (clock : SiteTimes)
     (held : ℕ) → IsBegun rule limit begin → (c : ComesTimed r rule limit begin now clock held) →
     now.core.state.retired ≤ limit → pick_by clock r held now.core ≡ earliest r begin.core.plan rule c.turn
@@ -213,7 +213,7 @@ timed-more r rule limit begin now new clock after step held later b c within m =
       state_is = refl;
     }
 
--- the moves then, and what the clock said of the last
+-- the moves after that turn, and what the clock said of the last one
 pub trace-more : (r : GuessRule) (rule : DelayRule) (limit : ℕ) (begin now new : RunPlace) (clock after : SiteTimes) (step : TimedStep) (held later : ℕ)
     (b : IsBegun rule limit begin) (c : ComesTimed r rule limit begin now clock held) (within : now.core.state.retired ≤ limit)
     (m : MakesEarliest limit r now new held later clock after step) →
@@ -239,7 +239,7 @@ step-done r rule limit begin now new clock after step held later b c within m =
     ∙ ap (λ (k : Move). done_after begin.core.plan c.turn.earlier (delayed_at rule c.turn.state c.turn.earlier k))
     (sym (ap (λ (done : TimedMove). done.mv) m.done_is))
 
--- at most as many instructions as the limit have retired, and fewer moves are left
+-- at most as many instructions as the limit have retired, and the bound on further moves has fallen
 pub timed-within : (r : GuessRule) (limit : ℕ) (now new : RunPlace) (held later : ℕ)
     (clock after : SiteTimes) (step : TimedStep) → MakesEarliest limit r now new held later clock after step → new.core.state.retired ≤ limit
 timed-within r limit now new held later clock after step m =

@@ -1,4 +1,4 @@
--- The times of sites, one more and one put.
+-- The times of sites, with one more site and with one time set.
 use Rattle.std.proofs.Common.{◌≡◌, ◌∙◌, refl, ap, ℕ, zero, suc, ◌+◌, ◌≤◌, List, [], ◌∷◌, ◌++◌, length, get_or, map, max, Bool, true, false, cond, arith}
 use Rattle.std.specs.Prelude.{filter, replicate, slice_set}
 use Rattle.cf_layout.specs.Layout.{Plan}
@@ -26,17 +26,17 @@ row-past (r ∷ rows) (suc k) row past = ap (λ (l : List (List ℕ)). r ∷ l) 
 
 pub ruleset rows = (row-read, row-past)
 
--- the greatest of two lists, one after the other
+-- the maximum of two lists, one after the other
 pub greatest-append : (xs ys : List ℕ) → greatest (xs ++ ys) ≡ max (greatest xs) (greatest ys)
 greatest-append [] ys = omega arith
 greatest-append (x ∷ xs) ys = let r = greatest-append xs ys in omega (arith, r)
 
--- one more number that passes the test, or not
+-- one more number, if it passes the test
 pub numbers_more : (test : ℕ → Bool) (k : ℕ) → filter test (counted_from 0 (k + 1)) ≡ filter test (counted_from 0 k) ++ cond (test k) (k ∷ []) []
 numbers_more test k = ap (filter test) (counted_split 0 k 1) ∙ filter-append test (counted_from 0 k) (counted_from (0 + k) 1)
     ∙ ap (λ (i : ℕ). filter test (counted_from 0 k) ++ filter test (counted_from i 1)) (omega arith)
 
--- the greatest time, with one more site or without
+-- the maximum time, with or without one more site
 pub greatest_more : (c : SiteTimes) (place : ℕ → Site) (test : ℕ → Bool) (k : ℕ) → greatest (map (time_at c) (map place (filter test (counted_from 0 (k + 1)))))
     ≡ max (greatest (map (time_at c) (map place (filter test (counted_from 0 k))))) (cond (test k) (time_at c (place k)) 0)
 greatest_more c place test k =
@@ -52,7 +52,7 @@ greatest_more c place test k =
     by true = omega arith
     by false = refl
 
--- a time that is put at some sites and then at others
+-- a time that is set at some sites and then at others
 pub put_times-append : (c : SiteTimes) (t : ℕ) (xs ys : List Site) → put_times c t (xs ++ ys) ≡ put_times (put_times c t xs) t ys
 put_times-append c t [] ys = refl
 put_times-append c t (x ∷ xs) ys = put_times-append (put_time c t x) t xs ys
@@ -72,7 +72,7 @@ put_more c t place test k =
     by true = refl
     by false = refl
 
--- what is put leaves the layout
+-- setting times leaves the layout unchanged
 pub put_same : (c : SiteTimes) (t : ℕ) (xs : List Site) → (put_times c t xs).plan ≡ c.plan
 put_same c t [] = refl
 put_same c t (x ∷ xs) = put_same (put_time c t x) t xs ∙ one c t x
@@ -125,7 +125,7 @@ put_latest c t (x ∷ xs) = put_latest (put_time c t x) t xs ∙ one c t x
     one c t Code = refl
     one c t _ = refl
 
--- a list with one number put has no greater one
+-- a list with one number set has no larger number
 number_within : (xs : List ℕ) (i j t most : ℕ) → number_at xs j ≤ most → t ≤ most → number_at (slice_set xs i t) j ≤ most
 number_within [] i j t most h g = h
 number_within (x ∷ xs) zero zero t most h g = g
@@ -160,14 +160,14 @@ cell_put c k i t h g Memory = h.each Memory
 cell_put c k i t h g Code = h.each Code
 cell_put c k i t h g _ = omega arith
 
--- so what is put, if it is no later than the greatest time, leaves no site later
+-- so setting a time that is at most the maximum leaves no site with a later one
 pub put_stage_within : (c : SiteTimes) (i t : ℕ) → NoneLater c → t ≤ c.latest → NoneLater (put_time c t (Stage i))
 put_stage_within c i t h g = record { each = stage_put c i t h g }
 
 pub put_cell_within : (c : SiteTimes) (k i t : ℕ) → NoneLater c → t ≤ c.latest → NoneLater (put_time c t (SidingCell k i))
 put_cell_within c k i t h g = record { each = cell_put c k i t h g }
 
--- and so at the other sites
+-- the same for the other sites
 other_put : (c : SiteTimes) (lane fetch memory code : ℕ) → NoneLater c → lane ≤ c.latest → fetch ≤ c.latest → memory ≤ c.latest → code ≤ c.latest → (x : Site) →
     time_at (record c { lane = lane; fetch = fetch; memory = memory; code = code }) x ≤ c.latest
 other_put c lane fetch memory code h l f m d (Stage j) = h.each (Stage j)
@@ -190,7 +190,7 @@ put_memory_within c t h g = record { each = other_put c c.lane c.fetch t c.code 
 pub put_code_within : (c : SiteTimes) (t : ℕ) → NoneLater c → t ≤ c.latest → NoneLater (put_time c t Code)
 put_code_within c t h g = record { each = other_put c c.lane c.fetch c.memory t h (h.each Lane) (h.each Fetching) (h.each Memory) g }
 
--- a later greatest time leaves no site later
+-- raising the maximum time leaves no site with a later one
 pub same_times : (c : SiteTimes) (t : ℕ) (x : Site) → time_at (allowed c t) x ≡ time_at c x
 same_times c t (Stage j) = refl
 same_times c t (SidingCell k j) = refl
@@ -203,7 +203,7 @@ same_times c t _ = refl
 pub allowed_within : (c : SiteTimes) (t : ℕ) → NoneLater c → NoneLater (allowed c t)
 allowed_within c t h = record { each = λ x. let e = same_times c t x in let g = h.each x in omega (arith, e, g) }
 
--- what is drawn changes no time
+-- drawing a word changes no time
 pub same_drawn : (c : SiteTimes) (mv : Move) (x : Site) → time_at (drawing c mv) x ≡ time_at c x
 same_drawn c mv (Stage j) = refl
 same_drawn c mv (SidingCell k j) = refl

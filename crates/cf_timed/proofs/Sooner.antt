@@ -1,4 +1,4 @@
--- The move that finishes earliest is an Issue, or the first of the others.
+-- The move that finishes earliest is an Issue or the first of the other moves.
 use Rattle.std.proofs.Common.{◌≡◌, ◌∙◌, sym, refl, ap, ℕ, zero, suc, ◌+◌, ◌-◌, ◌^◌, ◌<◌, ◌≤◌, List, [], ◌∷◌, ◌++◌, All, fold, length, get_or, Bool, true, false, nat_lt, Some, None, arith}
 use Rattle.std.specs.Prelude.{IfSome, slice_get}
 use Rattle.std.proofs.lemmas.Bool.Decides.{nat_tests}
@@ -28,7 +28,7 @@ use Rattle.cf_timed.specs.declared.soonest.Due.{Due}
 use Rattle.cf_timed.proofs.Leasts.{least-after, least-front, least-of_all}
 use Rattle.cf_timed.proofs.Sought.{found-bound, found-least}
 
--- all Issues use the same sites, and are of one kind
+-- all Issues use the same sites and are of one kind
 issue_time : (c : ClockedState) (g : Guess) → capped c (Issue g) ≡ capped c (Issue Next)
 unfolding finish_time delay_by span_of class_of_move stream_of
 issue_time c g = refl
@@ -63,7 +63,7 @@ none_there c r plan s false by e = none (kept_issues r plan s) e
     none [] e = λ k d below. absurd (omega arith)
     none (x ∷ xs) e = absurd (cc)
 
--- one of them is
+-- an Issue finishes by the time
 pub issue_there : (c : ClockedState) (r : GuessRule) (plan : Plan) (s : State) (held : Bool) (by time : ℕ) (mv : Move) → time ≡ capped c (Issue Next) →
     held ≡ false → time ≤ by →
     Some mv ≡ slice_get (kept_issues r plan s) 0 → IsIssueBy c (unheld_issues held r plan s) by (record { mv = mv; time = time })
@@ -77,7 +77,7 @@ issue_there c r plan s false by time mv e free soon at =
       soon = soon;
     }
 
--- an Issue is first where none of the others finishes before it
+-- an Issue is first if none of the others finishes before it
 front : (c : ClockedState) (xs ys : List Move) (mv : Move) → Some mv ≡ slice_get xs 0 → All (λ x. capped c x ≡ capped c mv) xs →
     ((k : ℕ) (d : Move) → k < length ys → capped c mv ≤ capped c (get_or ys k d)) → Some mv ≡ slice_get (xs ++ ys) (first_least (capped c) (xs ++ ys))
 front c [] ys mv at same later = absurd (cc)
@@ -102,7 +102,7 @@ issue_soonest c r plan s false seek due few e h =
     (λ k d below. let b = found-bound c (allowed_others plan s) seek (omega (arith, few)) e k d below in omega (arith, b, time, soon)) in
     record { mv = rw (guided_parts r plan s) first; time = time }
 
--- and else the first of the others is
+-- and otherwise the first of the others is
 pub other_soonest : (c : ClockedState) (r : GuessRule) (plan : Plan) (s : State) (held : Bool) (seek : Seeking) → length (allowed_others plan s) ≤ 517 →
     seek ≡ fold shown (nothing c) (allowed_others plan s) →
     AreLater c (unheld_issues held r plan s) seek.time → IfSome (due_of seek) (λ due. IsSoonest c (withheld held (guided r plan s)) due)
@@ -128,7 +128,7 @@ other_soonest c r plan s held seek few e later = by (nat_lt seek.time (2 ^ 64 - 
     by true t = rw t (found (grind (arith, nat_tests)))
     by false t = rw t tt
 
--- what is offered, with Issue held back or not
+-- what is offered, whether or not Issue is held back
 pub soonest_offered : (c : ClockedState) (count : PaceCount) (r : GuessRule) (plan : Plan) (s : State) (held : Bool) (due : Due) → r ≡ count.rule →
     held ≡ holds_issue count →
     IsSoonest c (withheld held (guided r plan s)) due → IsSoonest c (offers count plan s) due

@@ -1,4 +1,4 @@
--- What was found after some moves were shown: the first that has the least time.
+-- What was found after some moves were shown: the first with the least time.
 use Rattle.std.proofs.Common.{◌≡◌, refl, sym, ap, ℕ, zero, suc, ◌+◌, ◌-◌, ◌^◌, ◌<◌, ◌≤◌, List, [], ◌∷◌, drop, fold, length, get_or, min, Bool, true, false, cond, Some, nat_eq, nat_lt, arith}
 use Rattle.std.specs.Prelude.{slice_get}
 use Rattle.std.proofs.lemmas.Bool.Decides.{nat_tests}
@@ -9,7 +9,7 @@ use Rattle.cf_timed.specs.Earliest.{first_least}
 use Rattle.cf_timed.specs.Seeking.{Seeking, counted_move, nothing, shown}
 use Rattle.cf_timed.proofs.Leasts.{IsLeast, least-of_all}
 
--- of the moves that were shown the first with the least time is known, or none has a time below the greatest number
+-- of the moves that were shown, the first with the least time is known, or none has a time below the maximum number
 record Found (clock : ClockedState) (moves : List Move) (s : Seeking) : Type 0 where
   same : s.clock ≡ clock
   least : (k : ℕ) (d : Move) → k < s.shown → s.time ≤ capped clock (get_or moves k d)
@@ -64,14 +64,14 @@ found-next clock moves s mv few at h = by (nat_lt (capped s.clock mv) s.time) re
         more k d below less true q = let z : k ≡ s.shown = grind (arith, nat_tests) in let e = h.same in rw (z, here d, ← e) less
         more k d below less false q = let under : k < s.shown = grind (arith, nat_tests) in h.least k d under
 
--- the first of those that are left
+-- the first of the moves that are left
 next_at : (n : ℕ) (moves rest : List Move) (mv : Move) → drop n moves ≡ mv ∷ rest → (slice_get moves n ≡ Some mv) × (drop (suc n) moves ≡ rest)
 next_at zero [] rest mv e = absurd (cc)
 next_at zero (x ∷ moves) rest mv e = (cc, cc)
 next_at (suc n) [] rest mv e = absurd (cc)
 next_at (suc n) (x ∷ moves) rest mv e = next_at n moves rest mv e
 
--- all that are left
+-- all moves that are left
 found-rest : (clock : ClockedState) (moves : List Move) (s : Seeking) (rest : List Move) → length moves ≤ 2 ^ 64 - 1 → s.shown + length rest ≡ length moves →
     drop s.shown moves ≡ rest → Found clock moves s → Found clock moves (fold shown s rest) × ((fold shown s rest).shown ≡ length moves)
 found-rest clock moves s [] few count left h = (h, omega (arith, count))
@@ -105,7 +105,7 @@ found-all clock moves s few e =
     let f = found-rest clock moves (nothing clock) moves few (omega arith) refl (found-nothing clock moves) in
     (rw e (f.0), rw e (f.1))
 
--- no move has a lesser time
+-- no move has a smaller time
 pub found-bound : (clock : ClockedState) (moves : List Move) (s : Seeking) → length moves ≤ 2 ^ 64 - 1 → s ≡ fold shown (nothing clock) moves →
     (k : ℕ) (d : Move) → k < length moves → s.time ≤ capped clock (get_or moves k d)
 found-bound clock moves s few e k d below =
@@ -113,7 +113,7 @@ found-bound clock moves s few e k d below =
     let all = f.1 in
     (f.0).least k d (rw all below)
 
--- where a move has a time below the greatest number, the first of the least is found
+-- if a move has a time below the maximum number, the first move with the least time is found
 pub record Reached (clock : ClockedState) (moves : List Move) (s : Seeking) : Type 0 where
   pub least : IsLeast (capped clock) moves s.place s.time
   pub move : slice_get moves s.place ≡ Some s.move
@@ -144,7 +144,7 @@ found-first clock moves s few e below =
     let r = found-least clock moves s few e below in
     (least-of_all (capped clock) moves s.place s.time s.move r.least, r.least.within, sym r.move)
 
--- and where no move has, it is the first of all
+-- and if no move has, it is the first of all
 pub first-found : (clock : ClockedState) (moves : List Move) (s : Seeking) → length moves ≤ 2 ^ 64 - 1 → 0 < length moves →
     s ≡ fold shown (nothing clock) moves →
     2 ^ 64 - 1 ≤ s.time →

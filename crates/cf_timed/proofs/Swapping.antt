@@ -15,12 +15,12 @@ use Rattle.cf_timed.specs.Drawing.{stream_of, ticks_in, drawn_word}
 use Rattle.cf_timed.specs.Times.{DelayedMove, before, delayed, done_at, done_after, greatest_time, finish_after}
 use Rattle.cf_timed.proofs.Greatest.{where_more}
 
--- what moves wait for after one list and after another is the same, and from each stream as many have drawn
+-- after either list moves wait for the same time, and as many moves have drawn from each stream
 record AreAlike (plan : Plan) (xs ys : List TimedMove) : Type 0 where
   waits : (mv : Move) → greatest_time (before plan mv xs) ≡ greatest_time (before plan mv ys)
   drawn : (stream : ℕ) → drawn_before stream xs ≡ drawn_before stream ys
 
--- one more that has drawn, or not
+-- one more move, which drew from the stream or did not
 drawn_one : (stream : ℕ) (done : TimedMove) (xs : List TimedMove) →
     drawn_before stream (done ∷ xs) ≡ cond (stream_of done.mv == stream) 1 0 + drawn_before stream xs
 unfolding drawn_before
@@ -45,7 +45,7 @@ alike_more plan done xs ys h = record {
       ∙ sym (drawn_one stream done ys);
 }
 
--- so the delays and the times after them are the same
+-- so the delays and the times after the two lists are the same
 word_alike : (seed : Option ℕ) (xs ys : List TimedMove) (mv : Move) → drawn_before (stream_of mv) xs ≡ drawn_before (stream_of mv) ys →
     word_of_move seed xs mv ≡ word_of_move seed ys mv
 unfolding word_of_move
@@ -71,7 +71,7 @@ done_alike plan rule s t xs ys mv c e h =
     ap (λ (n : ℕ). done_after plan xs (delayed mv n)) (delay_alike rule s t xs ys mv c e)
     ∙ ap (done_at (delayed_at rule t ys mv)) (time_alike plan xs ys (delayed_at rule t ys mv) h)
 
--- and moves after them keep theirs: they come before both
+-- and the moves after them keep theirs: those come before both lists
 rest_alike : (plan : Plan) (rule : DelayRule) (xs ys : List TimedMove) (rest : List Visit) → AreAlike plan xs ys →
     (late : List TimedMove) × (timed_after plan rule xs rest ≡ late ++ xs) × (timed_after plan rule ys rest ≡ late ++ ys)
 unfolding timed_after
@@ -108,7 +108,7 @@ alike_turned plan a b xs = record {
       omega (arith, p, q, r, s);
 }
 
--- a move waits for no move with which it shares no site, and draws from another stream
+-- a move does not wait for a move that shares no site with it, and draws from another stream
 waits_apart : (plan : Plan) (done : TimedMove) (xs : List TimedMove) (mv : Move) → shares plan mv done.mv ≡ false →
     greatest_time (before plan mv (done ∷ xs)) ≡ greatest_time (before plan mv xs)
 waits_apart plan done xs mv e = where_more (λ d. shares plan mv d.mv) done xs

@@ -46,7 +46,7 @@ pub record HasWatched {W : Type 0} (noted : W → Made → TimedMove → W) (tex
   pub watcher_is : watcher ≡ watched noted plan rule begin first trace
   pub put : Writes blank full (watched_text noted text plan rule begin first trace)
 
--- where the run has arrived, and that
+-- how far the run has come, and what its watcher has noted and written
 pub record ComesWatched {W : Type 0} (noted : W → Made → TimedMove → W) (text : W → Made → TimedMove → List ℕ) (r : GuessRule) (rule : DelayRule)
     (limit : ℕ) (begin now : RunPlace) (clock : SiteTimes) (first watcher : W) (blank full : Option (List ℕ)) (held : ℕ) : Type 0 where
   pub comes : ComesTimed r rule limit begin now clock held
@@ -156,7 +156,7 @@ runs-watched noted text r rule limit core new before after now tally clock last 
       put = subst (λ (l : List Made). Writes blank full (watched_text noted text core.plan rule (timed_start core.state) first l)) (sym run_is) c.watches.put;
     }
 
--- it went one way or the other
+-- the run came to its end, or its report failed
 pub goes-broken : {W : Type 0} (noted : W → Made → TimedMove → W) (text : W → Made → TimedMove → List ℕ) (r : GuessRule) (rule : DelayRule) (limit : ℕ)
     (begin : RunPlace) (core : Processor) (streams : Streams) (clock : SiteTimes) (first later : W) (blank full : Option (List ℕ))
     (result : Result TimedRun Failed) → IsErr result → BreaksWatched noted text r rule limit begin first blank full →

@@ -1,4 +1,4 @@
--- Chains of a run: moves of it in its order, each of which shares a site with the next one.
+-- Chains of a run: some of its moves, in order, each of which shares a site with the next one.
 use Rattle.std.specs.Prelude.{◌≡◌, ℕ, ◌+◌, ◌≤◌, List, [], ◌∷◌, true, ◌⊎◌}
 use Rattle.cf_layout.specs.Layout.{Plan}
 use Rattle.cf_index.specs.Sites.{shares}
@@ -26,7 +26,7 @@ unfoldable pub sum_of_delays : List DelayedMove → ℕ
 sum_of_delays [] = 0
 sum_of_delays (d ∷ moves) = d.delay + sum_of_delays moves
 
--- the time of a run is the sum of the delays of some chain of it, and no chain has a greater sum
+-- the time of a run is the sum of the delays of some chain of it, and no chain has a larger sum
 pub record IsLongest (plan : Plan) (moves : List DelayedMove) (time : ℕ) : Type 0 where
   pub chain : List DelayedMove
   pub is_chain : IsChain plan moves chain

@@ -15,7 +15,7 @@ use Rattle.cf_timed.specs.Numbers.{number_at}
 use Rattle.cf_timed.specs.Times.{done_after, greatest, greatest_time}
 
 -- the layout, the delays and what they are drawn from; the times of the stages, by number; of the cells, by the numbers
--- of siding and cell; of the lane, of fetch, of the memory and of the code; and the greatest of all
+-- of siding and cell; of the lane, of fetch, of the memory and of the code; and the maximum of all
 pub record SiteTimes : Type 0 where
   pub plan : Plan
   pub delays : List Span
@@ -57,7 +57,7 @@ time_at c Memory = c.memory
 time_at c Code = c.code
 time_at c _ = 0
 
--- no site has a later time than the greatest
+-- no site has a later time than the maximum
 pub record NoneLater (c : SiteTimes) : Type 0 where
   pub each : (x : Site) → time_at c x ≤ c.latest
 
@@ -85,23 +85,23 @@ pub record ClockedState : Type 0 where
 abbrev pub clocked : SiteTimes → State → ClockedState
 clocked clock state = record { clock = clock; state = state }
 
--- how long a move takes that is made now
+-- how long a move takes if it is made now
 unfoldable pub delay_by : ClockedState → Move → ℕ
 delay_by c mv = ticks_in (span_of c.clock.delays mv (class_of_move c.state mv)) (next_word c.clock.draws (stream_of mv))
 
--- the delays by which a clock goes, and the seed from which they are drawn
+-- the delays that a clock uses, and the seed from which they are drawn
 abbrev pub rule_of_clock : SiteTimes → DelayRule
 rule_of_clock c = record { spans = c.delays; seed = c.draws.seed }
 
--- when it finishes: at the greatest time of the sites that it uses, plus its delay
+-- when it finishes: at the maximum time of the sites that it uses, plus its delay
 unfoldable pub finish_time : ClockedState → Move → ℕ
 finish_time c mv = greatest (map (time_at c.clock) (used c.clock.plan mv)) + delay_by c mv
 
--- the same, capped at the greatest number of 64 bits
+-- the same, capped at the maximum number of 64 bits
 abbrev pub capped : ClockedState → Move → ℕ
 capped c mv = min (finish_time c mv) (2 ^ 64 - 1)
 
--- the clock with this greatest time, if it is later
+-- the clock with this maximum time, if it is later
 abbrev pub allowed : SiteTimes → ℕ → SiteTimes
 allowed c t = record c { latest = max c.latest t }
 
@@ -122,12 +122,12 @@ abbrev pub made_all : SiteTimes → List Visit → SiteTimes
 made_all c [] = c
 made_all c (v ∷ visits) = made_all (made (clocked c v.state) v.mv) visits
 
--- the clock has recorded these moves of a run, each with its time, the last first
+-- the clock has recorded these moves of a run, each with its time; the last comes first
 pub record ClockKnows (plan : Plan) (rule : DelayRule) (moves : List TimedMove) (c : SiteTimes) : Type 0 where
   -- it is a clock of this layout and of these delays
   pub plan_is : c.plan ≡ plan
   pub rule_is : rule_of_clock c ≡ rule
-  -- its greatest time is theirs
+  -- its maximum time is theirs
   pub latest_is : c.latest ≡ greatest_time moves
   -- it knows how long a further move takes in any state, and when it finishes
   pub delays : (s : State) (mv : Move) → HasSites plan mv → delay_by (clocked c s) mv ≡ (delayed_at rule s moves mv).delay

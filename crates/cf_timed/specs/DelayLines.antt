@@ -1,5 +1,5 @@
--- What a text of delays gives (a format of this project): one kind of move, perhaps with a class, and its delay a line;
--- comments and lines without words are skipped.
+-- What a text of delays gives (a format of this project): in each line one kind of move, perhaps with a class, and its
+-- delay; comments and blank lines are skipped.
 use Rattle.std.specs.Prelude.{ℕ, ◌+◌, ◌==◌, Option, Some, None, Result, Ok, Err, List, [], ◌∷◌, length, map, drop, take, replicate, slice_get, slice_set, unwrap_or, ◌&&◌, nat_le, nat_lt, if◌then◌else◌}
 use Rattle.std.specs.List.{find, position_or_len}
 use Rattle.std.specs.Str.{bytes_eq}
@@ -21,40 +21,40 @@ use Rattle.run_scripts.specs.declared.delay_refusal.DelayKind.TheVariants.{NotAs
 use Rattle.cf_timed.specs.declared.span.Span.{Span}
 use Rattle.cf_timed.specs.Delays.{class_slot, one_tick, span_count}
 
--- the number of ticks that a word spells: one to four decimal digits, from 1 to 1000
+-- the number of ticks that a word gives: one to four decimal digits, from 1 to 1000
 unfoldable pub ticks_word : List ℕ → Option ℕ
 ticks_word word = on (numeral 10 4 word) None (λ n. if nat_le 1 n && nat_le n 1000 then Some n else None)
 
--- the range from one such number to another, which is no less
+-- the range from one such number to another, which is at least as large
 unfoldable pub delay_range : List ℕ → List ℕ → Option Span
 delay_range first last =
     on (ticks_word first) None (λ least.
     on (ticks_word last) None (λ greatest.
     if nat_le least greatest then Some (record { least = least; greatest = greatest }) else None))
 
--- the place of the first hyphen (45) of a word, and its length where it has none
+-- the index of the first hyphen (45) of a word, or its length if it has none
 abbrev pub hyphen_at : List ℕ → ℕ
 hyphen_at word = position_or_len (λ byte. byte == 45) word
 
--- the delay that a word spells: one number, or two with a hyphen between them
+-- the delay that a word gives: one number, or two with a hyphen between them
 unfoldable pub span_word : List ℕ → Option Span
 span_word word =
     if nat_lt (hyphen_at word) (length word) then delay_range (take (hyphen_at word) word) (drop (hyphen_at word + 1) word)
     else delay_range word word
 
--- the class that a word names, of those that are computed
+-- the class that a word names, one of those that are computed
 unfoldable pub class_named : List ℕ → Option Class
 class_named word = find (λ class. bytes_eq (class_name class) word) computed_classes
 
--- where the delays by class of a kind begin, if it has some: execute, launch and recover have
+-- the index at which the delays by class of a kind begin, if it has any: execute, launch and recover do
 abbrev pub class_first : ℕ → Option ℕ
 class_first kind = if kind == 5 then Some 14 else if kind == 7 then Some 23 else if kind == 10 then Some 32 else None
 
--- where the delay of a kind stands, and of a class of it
+-- the index of the delay for a class of a kind
 unfoldable pub slot_named : ℕ → List ℕ → Option ℕ
 slot_named kind word = on (class_first kind) None (λ first. on (class_named word) None (λ class. Some (class_slot kind first class)))
 
--- for each kind, and each class of a kind, the delay that a line has given: none so far
+-- the delay that a line has given for each kind, and for each class of a kind: none so far
 abbrev pub unnamed : List (Option Span)
 unnamed = replicate span_count None
 
@@ -62,7 +62,8 @@ unnamed = replicate span_count None
 abbrev pub told_at : List (Option Span) → ℕ → Option Span
 told_at named slot = unwrap_or (slice_get named slot) None
 
--- what a word and those after it add there to what was given above: a delay where none was given yet, and nothing more
+-- what a word and those after it add at this index to what was given above: a delay if none was given yet, and nothing
+-- more
 unfoldable pub span_told_there : List (Option Span) → ℕ → List ℕ → List (List ℕ) → Result (List (Option Span)) DelayKind
 span_told_there named slot word rest =
     if is_some (told_at named slot) then Err KindTwice else
@@ -85,19 +86,19 @@ words_told named words =
 unfoldable pub line_told : List (Option Span) → List ℕ → Result (List (Option Span)) DelayKind
 line_told named line = if is_ascii line then words_told named (words_of line) else Err NotAscii
 
--- the refusal with the number of its line
+-- the refusal with its line number
 abbrev pub in_line : ℕ → Result (List (Option Span)) DelayKind → Result (List (Option Span)) DelayErr
 in_line line (Ok named) = Ok named
 in_line line (Err kind) = Err (record { line = line; kind = kind })
 
--- what the lines after this many others add to the kinds that those have given; lines are counted from 1
+-- what the lines after this many others add to the delays that those have given; lines are counted from 1
 abbrev pub lines_told : ℕ → List (Option Span) → List (List ℕ) → Result (List (Option Span)) DelayErr
 lines_told above named [] = Ok named
 lines_told above named (line ∷ lines) =
     if is_skipped line then lines_told (above + 1) named lines
     else and_then (in_line (above + 1) (line_told named line)) (λ more. lines_told (above + 1) more lines)
 
--- the kind to which a place belongs
+-- the kind to which an index belongs
 abbrev pub kind_of_slot : ℕ → ℕ
 kind_of_slot slot = if nat_lt slot 14 then slot else if nat_lt slot 23 then 5 else if nat_lt slot 32 then 7 else 10
 

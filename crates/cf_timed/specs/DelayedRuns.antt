@@ -1,5 +1,5 @@
 -- How long each move of a run takes: by the class of the instruction that it executes, launches or recovers, and by how
--- many moves have drawn from its stream before it.
+-- many earlier moves have drawn from its stream.
 use Rattle.std.specs.Prelude.{ℕ, List, [], ◌∷◌, length, filter, ◌==◌, Option, Some, None}
 use Rattle.rv_inst.specs.declared.classes.Class.{Class}
 use Rattle.rv_inst.specs.declared.classes.Class.TheVariants.{Free}
@@ -23,7 +23,7 @@ pub record DelayRule : Type 0 where
   pub spans : List Span
   pub seed : Option ℕ
 
--- the class of the instruction in a stage; Free where none stands there, or where it is no instruction
+-- the class of the instruction in a stage; Free if there is none, or if nothing was decoded for it
 unfoldable pub class_in : Option Cell → Class
 class_in cell = on cell Free (λ c. on c.passenger Free (λ p. on p.what Free class_of))
 

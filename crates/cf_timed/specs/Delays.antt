@@ -1,5 +1,5 @@
--- The delays of a timed run: for each kind of move, and for each class of what is executed, launched or recovered, how
--- many ticks it takes at least and at most (a format of this project).
+-- The delays of a timed run: the fewest and the most ticks, for each kind of move and for each class that is executed,
+-- launched or recovered (a format of this project).
 use Rattle.std.specs.Prelude.{◌≡◌, ℕ, ◌+◌, ◌≤◌, List, length, slice_get, unwrap_or, All}
 use Rattle.rv_inst.specs.declared.classes.Class.{Class}
 use Rattle.rv_inst.specs.declared.classes.Class.TheVariants.{Add, Logic, Shift, Compare, Branch, Jump, Memory, Serial, Free, Mul, Div}
@@ -16,8 +16,8 @@ IsSpan span = (1 ≤ span.least) × (span.least ≤ span.greatest) × (span.grea
 abbrev pub one_tick : Span
 one_tick = record { least = 1; greatest = 1 }
 
--- one for each of the fourteen kinds, in their order, and behind these one for each class that is computed: of
--- execute, of launch, and of recover
+-- one for each of the fourteen kinds, in their order, followed by one for each class that is computed: of execute, of
+-- launch, and of recover
 abbrev pub span_count : ℕ
 span_count = 41
 
@@ -25,7 +25,8 @@ pub record AreDelays (spans : List Span) : Type 0 where
   pub count : length spans ≡ span_count
   pub each : All IsSpan spans
 
--- where that of a class stands: behind the first of its kind; a class that is not computed has that of the kind
+-- the index for a class: `first` is that of the first class of its kind; a class that is not computed has that of the
+-- kind
 abbrev pub class_slot : (kind first : ℕ) → Class → ℕ
 class_slot kind first Add = first
 class_slot kind first Logic = first + 1
@@ -39,13 +40,13 @@ class_slot kind first Div = first + 8
 class_slot kind first Serial = kind
 class_slot kind first Free = kind
 
--- where that of a move stands
+-- the index for a move
 abbrev pub slot_of : Move → Class → ℕ
 slot_of (Execute i) class = class_slot 5 14 class
 slot_of (Launch i) class = class_slot 7 23 class
 slot_of (Recover i) class = class_slot 10 32 class
 slot_of mv class = kind_place mv
 
--- how long a move takes, where the instruction that it executes, launches or recovers has this class
+-- how long a move takes, if the instruction that it executes, launches or recovers has this class
 unfoldable pub span_of : List Span → Move → Class → Span
 span_of spans mv class = unwrap_or (slice_get spans (slot_of mv class)) one_tick

@@ -25,11 +25,11 @@ seat_of (Recover i) = i
 seat_of (Slide k c) = 8 * k + c
 seat_of mv = 0
 
--- the stream from which a move draws: that of its kind there; all Issue moves have one
+-- the stream from which a move draws: that of its kind at its stage or cell; all Issue moves have the same
 unfoldable pub stream_of : Move → ℕ
 stream_of mv = 64 * (kind_place mv + 1) + seat_of mv
 
--- one more than the greatest stream
+-- one more than the largest stream
 abbrev pub stream_count : ℕ
 stream_count = 960
 
@@ -41,7 +41,7 @@ generator seed stream n = advance 64 multiplier_64 n (started 64 multiplier_64 s
 unfoldable pub drawn_word : (seed stream n : ℕ) → ℕ
 drawn_word seed stream n = output_xsh_rr (generator seed stream n).state
 
--- the ticks within a range that a word chooses; without one, the middle
+-- the ticks within a range that a word chooses; without a word, the middle
 unfoldable pub ticks_in : Span → Option ℕ → ℕ
 ticks_in span None = span.least + (span.greatest - span.least) / 2
 ticks_in span (Some word) = span.least + word % (span.greatest - span.least + 1)
@@ -66,6 +66,6 @@ next_word draws stream = on draws.seed None (λ seed. Some (output_xsh_rr (gener
 abbrev pub next_draw_state : DelayDraws → ℕ → ℕ
 next_draw_state draws stream = (next 64 multiplier_64 (generator_at draws stream)).state
 
--- the states once it was taken
+-- the states once that word was taken
 unfoldable pub after_word : DelayDraws → ℕ → DelayDraws
 after_word draws stream = on draws.seed draws (λ seed. record draws { states = slice_set draws.states stream (next_draw_state draws stream) })

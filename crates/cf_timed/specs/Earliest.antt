@@ -1,4 +1,4 @@
--- What a timed run picks: of the offered moves the one that finishes earliest, and of several the first.
+-- What a timed run picks: of the offered moves, the first of those that finish earliest.
 use Rattle.std.specs.Prelude.{◌≡◌, ℕ, List, [], ◌∷◌, nat_le}
 use Rattle.std.specs.List.{list_all, position_or_len}
 use Rattle.run_options.specs.declared.guess_rule.GuessRule.{GuessRule}
@@ -13,25 +13,26 @@ use Rattle.cf_timed.specs.declared.timed_move.TimedMove.{TimedMove}
 use Rattle.cf_timed.specs.DelayedRuns.{DelayRule, delayed_at}
 use Rattle.cf_timed.specs.Times.{done_after, finish_after}
 
--- the index of the first move whose time is no greater than any other
+-- the index of the first move whose time is at most that of every other
 unfoldable pub first_least : (Move → ℕ) → List Move → ℕ
 first_least time moves = position_or_len (λ mv. list_all (λ other. nat_le (time mv) (time other)) moves) moves
 
--- when a move that is made in a state after earlier ones finishes
+-- when a move that is made in a state, after earlier ones, finishes
 abbrev pub time_in : Plan → DelayRule → State → List TimedMove → Move → ℕ
 time_in plan rule s earlier mv = finish_after plan earlier (delayed_at rule s earlier mv)
 
--- where a run is: how many Issue moves the hold rule has counted, the state, and the earlier moves, the last first
+-- the state of a run: how many Issue moves the hold rule has counted, the state of the processor, and the earlier
+-- moves, beginning with the last
 pub record TimedTurn : Type 0 where
   pub count : ℕ
   pub state : State
   pub earlier : List TimedMove
 
--- the place among the offered moves of the first that finishes earliest
+-- the index, among the offered moves, of the first that finishes earliest
 unfoldable pub earliest : GuessRule → Plan → DelayRule → TimedTurn → ℕ
 earliest r plan rule t = first_least (time_in plan rule t.state t.earlier) (offered_by r plan t.count t.state)
 
--- where the run is after one more move
+-- the same after one more move
 abbrev pub after_turn : Plan → DelayRule → TimedTurn → Made → TimedTurn
 after_turn plan rule t made = record {
   count = paced t.count made.move made.event (is_drained made.state);
@@ -45,8 +46,8 @@ IsLastEarliest r plan rule t [] = Unit {0}
 IsLastEarliest r plan rule t (place ∷ []) = place ≡ earliest r plan rule t
 IsLastEarliest r plan rule t (place ∷ next ∷ places) = ⊥
 
--- each pick, by its place among the offered moves, is of the first that finishes earliest there; the moves are those
--- that were made, and where one more was picked, it stopped the run
+-- each pick, by its index among the offered moves, is the first that finishes earliest there; the moves are those that
+-- were made, and if one more was picked, it stopped the run
 unfoldable pub AreEarliest : GuessRule → Plan → DelayRule → TimedTurn → List ℕ → List Made → Type 0
 AreEarliest r plan rule t places [] = IsLastEarliest r plan rule t places
 AreEarliest r plan rule t [] (made ∷ trace) = ⊥

@@ -1,6 +1,6 @@
 -- The limit of a file of delays.
 use Rattle.std.specs.Prelude.{ℕ}
 
--- its greatest length, in bytes
+-- its maximum length, in bytes
 abbrev pub most_delays : ℕ
 most_delays = 65536

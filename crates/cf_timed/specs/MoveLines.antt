@@ -18,7 +18,7 @@ place_text number done =
 unfoldable pub timed_line : ℕ → TimedMove → List ℕ
 timed_line number done = place_text number done ++ line (move_line done.mv)
 
--- the lines of the moves of a run from there, the first of which has this number
+-- the lines of the moves of a run from this state, the first of which has this number
 unfoldable pub timed_move_lines : ℕ → Plan → DelayRule → TimedTurn → List Made → List ℕ
 timed_move_lines number plan rule t [] = []
 timed_move_lines number plan rule t (made ∷ trace) =

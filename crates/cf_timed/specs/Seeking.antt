@@ -1,4 +1,4 @@
--- The first of the moves with the least time, found while the moves are shown one by one.
+-- The first of the moves that have the least time, found while the moves are shown one by one.
 use Rattle.std.specs.Prelude.{ℕ, ◌+◌, ◌-◌, ◌^◌, min, nat_lt, if◌then◌else◌}
 use Rattle.cf_bind.specs.declared.moves.Move.{Move}
 use Rattle.cf_bind.specs.declared.moves.Move.TheVariants.{Exit}
@@ -16,7 +16,7 @@ pub record Seeking : Type 0 where
 abbrev pub counted_move : Seeking → Seeking
 counted_move s = record s { shown = min (s.shown + 1) (2 ^ 64 - 1) }
 
--- it is taken where it has a lesser time than those before it
+-- the move is taken if its time is smaller than those before it
 abbrev pub shown : Seeking → Move → Seeking
 shown s mv = counted_move (if nat_lt (capped s.clock mv) s.time then record s { place = s.shown; time = capped s.clock mv; move = mv } else s)
 

@@ -1,4 +1,4 @@
--- The move that finishes earliest, where the Issues are searched after the other moves.
+-- The move that finishes earliest, if the Issues are searched after the other moves.
 use Rattle.std.specs.Prelude.{◌≡◌, ℕ, ◌-◌, ◌^◌, ◌<◌, ◌≤◌, All, List, Option, Some, None, nat_lt, slice_get, if◌then◌else◌}
 use Rattle.cf_bind.specs.declared.moves.Move.{Move}
 use Rattle.cf_timed.specs.declared.soonest.Due.{Due}
@@ -21,6 +21,6 @@ pub record IsIssueBy (c : ClockedState) (issues : List Move) (by : ℕ) (due : D
 abbrev pub AreLater : ClockedState → List Move → ℕ → Type 0
 AreLater c moves by = All (λ mv. by < capped c mv) moves
 
--- what was found, where its time is below the greatest number of 64 bits
+-- what was found, if its time is below the maximum number of 64 bits
 abbrev pub due_of : Seeking → Option Due
 due_of s = if nat_lt s.time (2 ^ 64 - 1) then Some (record { mv = s.move; time = s.time }) else None

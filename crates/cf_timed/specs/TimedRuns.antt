@@ -38,23 +38,23 @@ answer_of_timed Limit = ran.Limit
 answer_of_timed ReadFault = ran.ReadFault
 answer_of_timed WriteFault = ran.WriteFault
 
--- a run may begin, with so small a limit that no time leaves 62 bits
+-- a run may begin, with a limit so small that no time exceeds 62 bits
 pub record CanRunTimed (limit : ℕ) (core : Processor) : Type 0 where
   pub can_run : CanRun limit core
   pub few : limit ≤ most_timed_limit
 
--- a timed run may begin: a run may, and no move has been recorded by the clock
+-- a timed run may begin: a run may begin, and the clock has recorded no move
 pub record CanBegin (limit : ℕ) (core : Processor) (clock : SiteTimes) : Type 0 where
   pub can_run : CanRunTimed limit core
   pub clock_is : clock ≡ started core.plan (rule_of_clock clock)
 
--- the counts of the faults of the input and of the output, before and after: that of whichever failed the run
+-- the counts of the faults of the input and of the output, before and after: the count of the one that failed the run
 -- rose
 pub record HasCauses (input input_after output output_after : ℕ) (answer : Option Answer) : Type 0 where
   pub of_input : HasCause input input_after (input_stopped answer)
   pub of_output : HasCause output output_after (output_stopped answer)
 
--- where a timed run begins, which reports nothing
+-- the beginning of a timed run that reports nothing
 abbrev pub begins : Processor → Streams → RunPlace
 begins core streams = run_place_of core streams None no_tally
 
@@ -62,13 +62,13 @@ begins core streams = run_place_of core streams None no_tally
 abbrev pub timed_start : State → TimedTurn
 timed_start s = record { count = 0; state = s; earlier = [] }
 
--- from there it is a run that makes, of what its guess rule offers, the move that finishes earliest, and a run of the
--- sequential machine; this many moves were made, and the clock has recorded exactly these
+-- from there the run makes, of the moves that its guess rule offers, the one that finishes earliest, and it is a run of
+-- the sequential machine; this many moves were made, and the clock has recorded exactly these
 pub record RunsTimed (r : GuessRule) (rule : DelayRule) (limit : ℕ) (begin : RunPlace) (core : Processor) (streams : Streams) (clock : SiteTimes)
     (moves : ℕ) (answer : Timed) : Type 0 where
   pub tally : Tally
   pub counted : tally.moves ≡ moves
-  -- its picks, each by its place among what was offered
+  -- its picks, each by its index among the offered moves
   pub picks : List ℕ
   pub right : RunsRight r first_pick later_picks limit show.report begin (run_place_of core streams None tally) picks [] (answer_of_timed answer)
   pub are_earliest : AreEarliest r begin.core.plan rule (timed_start begin.core.state) picks right.runs.reaches.trace
@@ -76,8 +76,8 @@ pub record RunsTimed (r : GuessRule) (rule : DelayRule) (limit : ℕ) (begin : R
   -- it ends as the sequential machine does under the same limit
   pub ends : EndsSequentially limit begin (run_place_of core streams None tally) (Ran (answer_of_timed answer))
 
--- it is such a run, and a watcher has noted each move of it and written about each, given how it notes a move and what it
--- writes about it; this is what the report exposed before and after
+-- it is such a run, and a watcher has noted each move of it and written about each, given how it notes a move and what
+-- it writes about it; `blank` and `full` are what the report exposed before and after
 pub record RunsWatched {W : Type 0} (noted : W → Made → TimedMove → W) (text : W → Made → TimedMove → List ℕ) (r : GuessRule) (rule : DelayRule) (limit : ℕ)
     (begin : RunPlace) (core : Processor) (streams : Streams) (clock : SiteTimes) (first later : W) (blank full : Option (List ℕ)) (moves : ℕ)
     (answer : Timed) : Type 0 where
@@ -85,8 +85,8 @@ pub record RunsWatched {W : Type 0} (noted : W → Made → TimedMove → W) (te
   pub noted_all : later ≡ watched noted begin.core.plan rule (timed_start begin.core.state) first run.right.runs.reaches.trace
   pub put : Writes blank full (watched_text noted text begin.core.plan rule (timed_start begin.core.state) first run.right.runs.reaches.trace)
 
--- the report failed after a move of such a run: a part of this text about its moves so far was written; by these moves it
--- is a run of the sequential machine, and they are at most a stated number
+-- the report failed after a move of such a run: a part of this text about its moves so far was written; with these
+-- moves it is a run of the sequential machine, and there are at most a stated number of them
 pub record BreaksTimed (text : List Made → List ℕ) (r : GuessRule) (rule : DelayRule) (limit : ℕ) (begin : RunPlace) (blank full : Option (List ℕ)) : Type 0
   where
     pub now : RunPlace

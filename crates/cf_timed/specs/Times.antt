@@ -18,12 +18,12 @@ delayed mv delay = record { mv = mv; delay = delay }
 abbrev pub done_at : DelayedMove → ℕ → TimedMove
 done_at d time = record { mv = d.mv; delay = d.delay; time = time }
 
--- the greatest of some numbers, and 0 where there are none
+-- the maximum of some numbers, or 0 if there are none
 abbrev pub greatest : List ℕ → ℕ
 greatest [] = 0
 greatest (t ∷ ts) = max t (greatest ts)
 
--- the greatest time of some moves
+-- the maximum time of some moves
 unfoldable pub greatest_time : List TimedMove → ℕ
 greatest_time moves = greatest (map (λ done. done.time) moves)
 
@@ -31,8 +31,8 @@ greatest_time moves = greatest (map (λ done. done.time) moves)
 abbrev pub before : Plan → Move → List TimedMove → List TimedMove
 before plan mv earlier = filter (λ done. shares plan mv done.mv) earlier
 
--- when a move that takes so long finishes after earlier ones: at the greatest time of those that share a site with it,
--- plus its delay
+-- when a move with this delay finishes after earlier ones: at the maximum time of those that share a site with it, plus
+-- its delay
 unfoldable pub finish_after : Plan → List TimedMove → DelayedMove → ℕ
 finish_after plan earlier d = greatest_time (before plan d.mv earlier) + d.delay
 

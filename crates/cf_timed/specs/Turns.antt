@@ -19,7 +19,7 @@ use Rattle.cf_timed.specs.Clocks.{SiteTimes, capped, clocked, delay_by, stamped}
 use Rattle.cf_timed.specs.Earliest.{first_least}
 use Rattle.cf_timed.specs.Times.{delayed, done_at}
 
--- the place of the first that finishes earliest by the clock, among the offered moves
+-- the index, among the offered moves, of the first that finishes earliest by the clock
 abbrev pub pick_by : SiteTimes → GuessRule → ℕ → Processor → ℕ
 pick_by clock r held core = first_least (capped (clocked clock core.state)) (offered_by r core.plan held core.state)
 
@@ -38,7 +38,7 @@ pub record MakesEarliest (limit : ℕ) (r : GuessRule) (now new : RunPlace) (hel
   pub event_is : step.event ≡ makes.takes.event
   pub done_is : step.done ≡ timed_by clock now.core.state makes.takes.move
 
--- the run stops there: it is over, and nothing changes; or that move is the last that it tries
+-- the run stops there: it is over, and nothing changes; or it tries that move as its last
 abbrev pub StopsEarliest : ℕ → GuessRule → (now new : RunPlace) → ℕ → SiteTimes → Answer → Type 0
 StopsEarliest limit r now new held clock (ran.Exit status) = IsOver limit now.core.state (ran.Exit status) × (new ≡ now)
 StopsEarliest limit r now new held clock (ran.Trap cause pc detail) = IsOver limit now.core.state (ran.Trap cause pc detail) × (new ≡ now)
@@ -49,7 +49,7 @@ StopsEarliest limit r now new held clock ran.WriteFault =
     StopsAtPick first_pick later_picks limit show.report (chooser r (pick_by clock r held now.core ∷ []) held) now new [] ran.WriteFault
 StopsEarliest limit r now new held clock ran.ReportFault = ⊥
 
--- one or the other
+-- the move is made, or the run stops
 abbrev pub TurnsTimed : ℕ → GuessRule → (now new : RunPlace) → (held later : ℕ) → (clock after : SiteTimes) → Result TimedStep Answer → Type 0
 TurnsTimed limit r now new held later clock after (Ok step) = MakesEarliest limit r now new held later clock after step
 TurnsTimed limit r now new held later clock after (Err answer) = StopsEarliest limit r now new held clock answer × (after ≡ clock)

@@ -1,4 +1,4 @@
--- What is shown each move of a timed run, once it was made.
+-- What a watcher notes and writes when it is shown each move of a timed run.
 use Rattle.std.specs.Prelude.{ℕ, List, [], ◌∷◌, ◌++◌}
 use Rattle.cf_layout.specs.Layout.{Plan}
 use Rattle.cf_run.specs.Made.{Made}
@@ -7,7 +7,7 @@ use Rattle.cf_timed.specs.DelayedRuns.{DelayRule, delayed_at}
 use Rattle.cf_timed.specs.Earliest.{TimedTurn, after_turn}
 use Rattle.cf_timed.specs.Times.{done_after}
 
--- the watcher after the moves of a run from there, given how it notes a move
+-- the watcher after the moves of a run from this state, given how it notes a move
 unfoldable pub watched : {W : Type 0} → (noted : W → Made → TimedMove → W) → Plan → DelayRule → TimedTurn → W → List Made → W
 watched noted plan rule t w [] = w
 watched noted plan rule t w (made ∷ trace) =

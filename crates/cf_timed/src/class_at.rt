@@ -1,4 +1,4 @@
-//! The class of the instruction with which a move has to do.
+//! The class of the instruction that a move acts on.
 
 ghost use Rattle.std.specs.Prelude.{◌≡◌};
 ghost use Rattle.cf_semantics.specs.state.State.{cell_at};
@@ -8,7 +8,7 @@ use cf_bind::Move;
 use cf_core::Core;
 use rv_inst::{Class, class_of};
 
-/// The class of the instruction in a stage; `Free` where none stands there, or where it is no instruction.
+/// The class of the instruction in a stage; `Free` if there is none, or if nothing was decoded for it.
 #[inline(always)]
 #[tactic(auto, using(crate::proofs::Classes::past_stages), unfolding(crate::specs::DelayedRuns::class_in))]
 fn class_in(core: &Core, i: u32) -> Class

@@ -13,8 +13,8 @@ use cf_core::Core;
 use cf_layout::Layout;
 use std::marker::Model;
 
-/// For each site of a processor the time of the last move that used it: the stages by their numbers, the cells of the
-/// sidings, the lane, fetch, the memory and the code; and what the delays of further moves are drawn from.
+/// For each site of a processor, the time of the last move that used it: the stages by their numbers, the cells of the
+/// sidings, the lane, fetch, the memory and the code. It also has what the delays of further moves are drawn from.
 #[derive(Clone, Copy)]
 pub struct Clock {
     pub(crate) layout: Layout,
@@ -61,7 +61,7 @@ impl Clock {
         }
     }
 
-    /// The greatest time so far, or 0. No site has a later one.
+    /// The maximum time so far, or 0. No site has a later one.
     pub fn greatest(&self) -> u64
         ensures greatest { result ≡ self.now.latest }
         ensures none_later { NoneLater self.now }
@@ -84,8 +84,8 @@ impl Clock {
         &self.layout
     }
 
-    /// How many ticks the move takes if it is made now: as many as its kind and the class of its instruction give, drawn
-    /// by the next word of its stream or taken from the middle.
+    /// How many ticks the move takes if it is made now: within the range for its kind and the class of its instruction,
+    /// chosen by the next word of its stream, or the middle of the range.
     #[inline(always)]
     #[tactic(auto, unfolding(crate::specs::Clocks::delay_by))]
     pub fn delay(&self, core: &Core, mv: Move) -> u64
@@ -96,7 +96,7 @@ impl Clock {
         u64::from(span.ticks(self.draws.next_word(stream_of(mv))))
     }
 
-    /// When the move finishes if it is made now, capped at the greatest `u64`.
+    /// When the move finishes if it is made now, capped at the maximum `u64`.
     #[inline(always)]
     #[tactic(auto, unfolding(crate::specs::Clocks::finish_time))]
     pub(crate) fn capped(&self, core: &Core, mv: Move) -> u64
@@ -105,7 +105,7 @@ impl Clock {
         self.reach(mv).saturating_add(self.delay(core, mv))
     }
 
-    /// Records a move that finishes at this time, and takes the word that its delay was drawn by.
+    /// Records a move that finishes at this time, and takes the word from which its delay was drawn.
     #[inline(always)]
     pub(crate) fn stamp(&mut self, mv: Move, time: u64)
         ensures { self.new ≡ stamped self.old mv time }
@@ -123,7 +123,7 @@ impl Clock {
         self.draws.take_word(stream_of(mv));
     }
 
-    /// Raises the greatest time to this one, if it is later.
+    /// Raises the maximum time to this one, if it is later.
     #[inline(always)]
     fn allow(&mut self, time: u64)
         ensures { self.new ≡ allowed self.old time }
@@ -131,8 +131,8 @@ impl Clock {
         self.latest = self.latest.max(time);
     }
 
-    /// When the move finishes if it is made now: the greatest time of the sites that it uses, plus its delay. The
-    /// layout has each stage and each cell that the move uses.
+    /// When the move finishes if it is made now: the maximum time of the sites that it uses, plus its delay. The layout
+    /// has each stage and each cell that the move uses.
     #[tactic(auto, using(crate::proofs::SiteTimes::reach_within), unfolding(crate::specs::Clocks::finish_time))]
     pub fn finish(&self, core: &Core, mv: Move) -> u64
         requires sites { HasSites self.now.plan mv }

@@ -55,8 +55,8 @@ pub fn kind_place(mv: Move) -> usize
     }
 }
 
-/// The index of the range of a class: behind the first of its kind, and that of the kind for a class that is not
-/// computed.
+/// The index of the range for a class: `first` is that of the first class of its kind; a class that is not computed has
+/// that of the kind.
 #[inline(always)]
 pub(crate) fn class_slot(kind: usize, first: usize, class: Class) -> usize
     requires { first ≤ 32 }
@@ -101,7 +101,7 @@ fn slot_of(mv: Move, class: Class) -> usize
     }
 }
 
-/// The kind to which the range of an index belongs.
+/// The kind to which the range at an index belongs.
 fn kind_of_slot(slot: usize) -> usize
     requires { slot < span_count }
     ensures kind { result ≡ kind_of_slot slot }
@@ -118,7 +118,7 @@ fn kind_of_slot(slot: usize) -> usize
     }
 }
 
-/// The range of an index: what was told of it, else what was told of its kind, else one tick.
+/// The range at an index: the one given for it, otherwise the one given for its kind, otherwise one tick.
 #[tactic(auto, unfolding(crate::specs::DelayLines::span_told))]
 fn span_told(told: &[Option<Span>; 41], slot: usize) -> Span
     requires within { slot < span_count }
@@ -133,8 +133,8 @@ fn span_told(told: &[Option<Span>; 41], slot: usize) -> Span
 }
 
 impl Delays {
-    /// The delays that were given; a class of which none was given has that of its kind, and another kind takes one
-    /// tick.
+    /// The delays that were given. A class for which none was given has that of its kind, and a kind for which none was
+    /// given takes one tick.
     #[tactic(auto, unfolding(crate::specs::DelayLines::filled))]
     pub(crate) fn filled(told: &[Option<Span>; 41]) -> Delays
         requires { All (λ span. IfSome span IsSpan) told.now }
@@ -154,7 +154,7 @@ impl Delays {
         let _ = &self.spans;
     }
 
-    /// How many ticks the move takes, where the instruction that it executes, launches or recovers has this class.
+    /// How many ticks the move takes, if the instruction that it executes, launches or recovers has this class.
     #[inline(always)]
     #[tactic(auto, unfolding(crate::specs::Delays::span_of))]
     pub fn of(&self, mv: Move, class: Class) -> Span

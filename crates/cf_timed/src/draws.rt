@@ -7,7 +7,7 @@ use cf_bind::Move;
 use rand_core::utils::NextWord;
 use rand_pcg::Lcg64Xsh32;
 
-/// For each stream of a seed the state of its PCG generator. Without a seed no word is drawn.
+/// For each stream of a seed, the state of its PCG generator. Without a seed no word is drawn.
 #[derive(Clone, Copy)]
 pub struct DelayDraws {
     pub(crate) seed: Option<u64>,

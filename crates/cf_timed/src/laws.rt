@@ -16,8 +16,8 @@ ghost use Rattle.cf_timed.specs.DelayedRuns.{DelayRule, Visit, timed_visits};
 ghost use Rattle.cf_timed.specs.Exchanges.{CanExchange};
 ghost use Rattle.cf_timed.specs.Times.{DelayedMove, greatest_time, moves_with_times};
 
-/// A clock that has recorded the moves of a run has their greatest time, and knows how long a further move takes and when
-/// it finishes. That time is the sum of the delays of some chain of the run, and no chain has a greater sum.
+/// A clock that has recorded the moves of a run has their maximum time, and knows how long a further move takes and
+/// when it finishes. That time is the sum of the delays of some chain of the run, and no chain has a larger sum.
 pub fn t7_1()
     ensures clock { (plan : Plan) (rule : DelayRule) (visits : List Visit) → IsAccepted plan →
         AllByRecursion (λ v. HasSites plan v.mv) visits →

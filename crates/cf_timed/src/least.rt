@@ -62,7 +62,7 @@ impl<'a> Least<'a> {
         }
     }
 
-    /// The move that was found, where its time is below the greatest `u64`.
+    /// The move that was found, if its time is below the maximum `u64`.
     #[inline(always)]
     pub(crate) fn due(&self) -> Option<Due>
         ensures { result ≡ due_of self.now }

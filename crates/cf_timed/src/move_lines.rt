@@ -19,7 +19,7 @@ pub struct MoveLines {
     pub(crate) count: u64,
 }
 
-/// What stands before the move in the line of the move of this number.
+/// What comes before the move in its line, which has this number.
 #[tactic(auto, unfolding(crate::specs::MoveLines::place_text))]
 fn place_page(number: u64, done: &TimedMove) -> Page
     ensures { result ≡ place_text number done.now }
@@ -58,7 +58,7 @@ fn put_timed<R: Sink>(number: u64, done: &TimedMove, report: &mut R) -> Result<(
 }
 
 impl MoveLines {
-    /// Lines of which none was written.
+    /// The lines, none of which is written yet.
     pub fn new() -> MoveLines
         ensures { result ≡ record { count = 0 } }
     {

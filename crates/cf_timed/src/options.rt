@@ -1,4 +1,4 @@
-//! What can be asked of a timed run.
+//! The options of a timed run.
 
 use run_options::GuessRule;
 

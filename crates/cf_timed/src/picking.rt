@@ -25,7 +25,7 @@ impl Clock {
         // Their number fits, so the index cannot overflow.
         let _count = candidates.len();
         candidates.visit(&mut least);
-        // Where no time is below the greatest `u64`, all are equal.
+        // If no time is below the maximum `u64`, all are equal.
         if least.time < u64::MAX {
             least.mv
         } else {
@@ -60,7 +60,7 @@ impl Clock {
         }
     }
 
-    /// The first of the offered moves that finish earliest, by the pace of a processor of as many stages.
+    /// The first of the offered moves that finish earliest, by the pace of a processor with as many stages.
     #[inline(always)]
     #[tactic(auto, using(cf_run::proofs::Stopped::offering))]
     pub(crate) fn earliest(&self, core: &Core, candidates: &mut Candidates, pace: &Pace) -> Due

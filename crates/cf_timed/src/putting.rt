@@ -46,7 +46,7 @@ impl Clock {
         }
     }
 
-    /// Sets the time of a cell of a siding where `taken` is set.
+    /// Sets the time of a cell of a siding if `taken` is set.
     #[inline(always)]
     fn put_cell_if(&mut self, taken: bool, k: usize, c: usize, time: u64)
         requires { time ≤ self.old.latest }

@@ -28,7 +28,7 @@ pub fn port(layout: &Layout) -> (usize, usize)
     }
 }
 
-/// The time at an index of a list, and 0 where the list is shorter.
+/// The time at an index of a list, or 0 if the list is shorter.
 #[inline(always)]
 fn time_in(times: &[u64], i: usize) -> u64
     ensures { result ≡ number_at times.now i }
@@ -56,7 +56,7 @@ impl Clock {
         }
     }
 
-    /// The time of a cell of a siding where `taken` is set, otherwise 0.
+    /// The time of a cell of a siding if `taken` is set, otherwise 0.
     #[inline(always)]
     fn cell_if(&self, taken: bool, k: usize, c: usize) -> u64
         ensures { result ≡ (if taken then time_at self.now (SidingCell k c) else 0) }
@@ -64,7 +64,7 @@ impl Clock {
         if taken { self.cell(k, c) } else { 0 }
     }
 
-    /// The greatest time of the first cells of the sidings that launch at the stage.
+    /// The maximum time of the first cells of the sidings that launch at the stage.
     #[inline(always)]
     #[tactic(auto, using(crate::proofs::SiteTimes::greatest_more), unfolding(cf_index::specs::Sites::ways_in))]
     fn entries(&self, i: u32) -> u64
@@ -79,7 +79,7 @@ impl Clock {
         most
     }
 
-    /// The greatest time of the last cells of the sidings that recover at the stage.
+    /// The maximum time of the last cells of the sidings that recover at the stage.
     #[inline(always)]
     #[tactic(auto, using(crate::proofs::SiteTimes::greatest_more), unfolding(cf_index::specs::Sites::ways_out))]
     fn exits(&self, i: u32) -> u64
@@ -104,7 +104,7 @@ impl Clock {
         self.cell(k, c)
     }
 
-    /// The greatest time of the sites that the move uses.
+    /// The maximum time of the sites that the move uses.
     #[inline(always)]
     pub(crate) fn reach(&self, mv: Move) -> u64
         ensures { result ≡ greatest (map (time_at self.now) (used self.now.plan mv)) }

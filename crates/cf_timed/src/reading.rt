@@ -14,7 +14,7 @@ use rv_inst::Class;
 use rv_text::{cut_at, cut_line, find_byte, numeral};
 use texts::is_ascii;
 
-/// The number of ticks that a word spells, if it spells one.
+/// The number of ticks that a word gives, if it gives one.
 #[tactic(auto, unfolding(crate::specs::DelayLines::ticks_word))]
 fn ticks_word(word: &[u8]) -> Option<u32>
     ensures ticks { result ≡ ticks_word word.now }
@@ -28,7 +28,7 @@ fn ticks_word(word: &[u8]) -> Option<u32>
     }
 }
 
-/// The range between the numbers that two words spell, if the second is no less than the first.
+/// The range between the numbers that two words give, if the second is not smaller than the first.
 #[tactic(auto, unfolding(crate::specs::DelayLines::delay_range))]
 fn range_of(first: &[u8], last: &[u8]) -> Option<Span>
     ensures range { result ≡ delay_range first.now last.now }
@@ -43,7 +43,7 @@ fn range_of(first: &[u8], last: &[u8]) -> Option<Span>
     }
 }
 
-/// The delay that a word spells, if it spells one: a number of ticks, or two with a hyphen between them.
+/// The delay that a word gives, if it gives one: a number of ticks, or two with a hyphen between them.
 #[tactic(auto, unfolding(crate::specs::DelayLines::span_word))]
 fn span_word(word: &[u8]) -> Option<Span>
     ensures span { result ≡ span_word word.now }
@@ -58,7 +58,7 @@ fn span_word(word: &[u8]) -> Option<Span>
     }
 }
 
-/// The class that a word names, of those that are computed.
+/// The class that a word names, one of those that are computed.
 #[tactic(auto, unfolding(crate::specs::DelayLines::class_named))]
 fn class_named(word: &[u8]) -> Option<Class>
     ensures { result ≡ class_named word.now }
@@ -69,7 +69,7 @@ fn class_named(word: &[u8]) -> Option<Class>
         .find(|class| class_name(*class).as_bytes() == word)
 }
 
-/// Where the delays by class of a kind begin, if it has some.
+/// The index at which the delays by class of a kind begin, if it has any.
 fn class_first(kind: usize) -> Option<usize>
     ensures first { result ≡ class_first kind }
     ensures within { IfSome result (λ first. first ≤ 32) }
@@ -82,7 +82,7 @@ fn class_first(kind: usize) -> Option<usize>
     }
 }
 
-/// Where the delay of the class that a word names stands, if the kind has delays by class.
+/// The index of the delay for the class that a word names, if the kind has delays by class.
 #[tactic(auto, unfolding(crate::specs::DelayLines::slot_named))]
 fn slot_named(kind: usize, word: &[u8]) -> Option<usize>
     requires { kind < 14 }
@@ -94,7 +94,7 @@ fn slot_named(kind: usize, word: &[u8]) -> Option<usize>
     Some(class_slot(kind, first, class))
 }
 
-/// Records the delay that a word spells, where no earlier line has given one and no word is left.
+/// Records the delay that a word gives, if no earlier line has given one and no word is left.
 #[tactic(auto, unfolding(crate::specs::DelayLines::span_told_there))]
 fn read_span(
     named: &mut [Option<Span>; 41],
@@ -162,14 +162,14 @@ fn read_line(named: &mut [Option<Span>; 41], line: &[u8]) -> Result<(), DelayKin
     }
 }
 
-/// The greatest length of a text of delays, in bytes.
+/// The maximum length of a text of delays, in bytes.
 pub const MOST_DELAYS: usize = 65_536;
 
-/// The delays that the text gives, a line each: a kind of move and its delay, a number of ticks or a range of them with
-/// a hyphen; or `execute`, `launch` or `recover`, a class, and the delay of the instructions of that class. A class that
-/// no line gives has the delay of its kind, and a kind that no line gives takes one tick. An error is the first line that
-/// gives no delay, with the first refusal of `NotAscii`, `UnknownKind`, `KindTwice`, `BadDelay` and `ExtraWords`. A comment
-/// and a line without words are skipped.
+/// The delays that the text gives, one in each line: a kind of move and its delay, which is a number of ticks or a
+/// range of them with a hyphen; or `execute`, `launch` or `recover`, a class, and the delay of the instructions of that
+/// class. A class that no line gives has the delay of its kind, and a kind that no line gives takes one tick. An error
+/// is the first line that gives no delay, with the first refusal of `NotAscii`, `UnknownKind`, `KindTwice`, `BadDelay`
+/// and `ExtraWords`. A comment and a line without words are skipped.
 #[tactic(auto, unfolding(crate::specs::DelayLines::delays_in))]
 pub fn read_delays(text: &[u8]) -> Result<Delays, DelayErr>
     requires { length text.now ≤ most_delays }

@@ -96,14 +96,14 @@ fn timed(ran: Ran) -> Timed
     }
 }
 
-/// Runs an opened processor by a clock that has recorded no move, and shows each move to a watcher once it was made: of
-/// the candidates that any policy would be offered under the guess rule, it makes the one that finishes earliest, and of
-/// several the first in the order of all moves. It runs until the program ends, as many instructions have retired as the
-/// limit allows, or a fault occurs; these are tested in this order before each move. The clock records the moves that were
-/// made, and their number is returned. It allocates no memory and always terminates.
+/// Runs an opened processor by a clock that has recorded no move, and shows each move to a watcher once it was made. Of
+/// the candidates that any policy would be offered under the guess rule, it makes the one that finishes earliest, and
+/// if there are several, the first in the order of all moves. It runs until the program ends, as many instructions have
+/// retired as the limit allows, or a fault occurs; these are tested in this order before each move. The clock records
+/// the moves that were made, and their number is returned. It allocates no memory and always terminates.
 ///
-/// `ReadFault` and `WriteFault` come only where the input or the output failed a call of the environment; the count of
-/// its faults rose, and that move is neither counted nor recorded by the clock nor shown. `Failed` comes only where the
+/// `ReadFault` and `WriteFault` come only if the input or the output failed a call of the environment; the count of its
+/// faults rose, and that move is not counted, not recorded by the clock and not shown. `Failed` comes only if the
 /// report failed when the watcher wrote about a move; the run stops there.
 pub fn run_watched<W: Watcher, S: Source, K: Sink, R: Sink>(
     core: &mut Core,
@@ -190,7 +190,7 @@ pub fn run_timed<S: Source, K: Sink>(
 }
 
 /// Runs an opened processor as `run_timed` does, and writes the line of each move to the report once it was made: its
-/// number, when it starts and finishes, and the move. `Failed` comes only where the report failed; the run stops there.
+/// number, when it starts and finishes, and the move. `Failed` comes only if the report failed; the run stops there.
 pub fn run_shown<S: Source, K: Sink, R: Sink>(
     core: &mut Core,
     candidates: &mut Candidates,

@@ -21,9 +21,9 @@ pub(crate) struct Due {
 }
 
 impl Clock {
-    /// The first Issue that is allowed, kept by the guess rule and not held back, where it finishes by this time. The
-    /// search is made only where an Issue would finish by then, since it has to decode an instruction; all Issues use
-    /// the same sites.
+    /// The first Issue that is allowed, kept by the guess rule and not held back, if it finishes by this time. The
+    /// search is made only if an Issue would finish by then, since it has to decode an instruction; all Issues use the
+    /// same sites.
     #[inline(always)]
     #[tactic(auto, using(crate::proofs::Sooner::issue_due))]
     fn issue_by(&self, core: &Core, rule: GuessRule, held: bool, by: u64) -> Option<Due>
@@ -43,8 +43,8 @@ impl Clock {
         }
     }
 
-    /// The first of the allowed moves that the guess rule keeps and that finish earliest, with Issue held back or not.
-    /// It may be `None` where no time of a move other than Issue is below the greatest `u64`.
+    /// The first of the allowed moves that the guess rule keeps and that finish earliest, whether or not Issue is held
+    /// back. It may be `None` if no time of a move other than Issue is below the maximum `u64`.
     #[inline(always)]
     pub(crate) fn soonest(&self, core: &Core, rule: GuessRule, held: bool) -> Option<Due>
         ensures { IfSome result (λ due. IsSoonest (clocked self.now core.now.state) (withheld held (guided rule core.now.plan core.now.state)) due) }

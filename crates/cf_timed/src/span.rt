@@ -25,7 +25,7 @@ impl Span {
         }
     }
 
-    /// The ticks that a word chooses; without one the middle, rounded down.
+    /// The ticks that a word chooses; without a word the middle, rounded down.
     #[inline(always)]
     #[tactic(auto, unfolding(crate::specs::Drawing::ticks_in))]
     pub(crate) fn ticks(self, word: Option<u32>) -> u32

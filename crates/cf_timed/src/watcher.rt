@@ -1,4 +1,4 @@
-//! A watcher is shown each move of a timed run.
+//! Watchers, which are shown each move of a timed run.
 
 ghost use Rattle.std.specs.Prelude.{◌≡◌, ℕ, List, []};
 ghost use Rattle.cf_report.specs.Putting.{PutsText};

@@ -1,4 +1,4 @@
-//! The simulator's program: it hands its arguments, the real files and the standard streams to the top call.
+//! The simulator's program: it passes its arguments, the real files and the standard streams to the top call.
 #![tactic(auto)]
 
 use cf_io::{DirFiles, StdSink, StdSource};
@@ -8,10 +8,10 @@ use std::io::{self, ErrorKind};
 use std::process::ExitCode;
 use std::{env, rt};
 
-/// The status where memory for the arguments was refused.
+/// The status if memory for the arguments was refused.
 const NO_MEMORY: u8 = 130;
 
-/// The status where the arguments cannot be had for another reason, as where one is not UTF-8.
+/// The status if the arguments cannot be read for another reason: for example, one is not UTF-8.
 const NO_WORDS: u8 = 133;
 
 /// The arguments of the command line, without the program's own name.

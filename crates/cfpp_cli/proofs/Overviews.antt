@@ -1,4 +1,4 @@
--- The help text of the program tells of each command, each option, each status and the limits.
+-- The help text of the program describes each command, each option, each status and the limits.
 use Rattle.std.proofs.Common.{◌≡◌, true, refl}
 use Rattle.std.specs.Fmt.{digits}
 use Rattle.cli_arguments.specs.declared.names.CommandName.{CommandName}

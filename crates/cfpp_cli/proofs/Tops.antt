@@ -1,4 +1,4 @@
--- What was decided from the arguments is what the top call does.
+-- The top call does what was decided from the arguments.
 use Rattle.std.proofs.Common.{◌≡◌, ◌∙◌, ◌⊎◌, ℕ, List, Bool, true, false, Option, Result, Ok, Err, refl, subst, inl, inr, arith}
 use Rattle.cf_io.specs.Causes.{HasCause, Rose}
 use Rattle.cf_io.specs.Puts.{Writes, WritesNothing}
@@ -17,13 +17,13 @@ use Rattle.cfpp_cli.proofs.FilesRead.{answers-read, breaks-read}
 use Rattle.cli_files.specs.declared.status.Status.{Status}
 use Rattle.cli_files.specs.declared.status.Status.TheVariants as status
 
--- counts of faults rose exactly where the status says so; is_file: the program's input is in a file
+-- counts of faults rose exactly if the status says so; is_file: the program's input is in a file
 pub record HasCauses (is_file : Bool) (before after : Outside) (answer : Status) : Type 0 where
   pub files : HasCause before.file_faults after.file_faults (files_failed is_file answer)
   pub input : HasCause before.input_faults after.input_faults (input_failed is_file answer)
   pub output : HasCause before.output_faults after.output_faults (output_answered answer)
 
--- the lines that close the report were put, and the status is the answer; or the report failed at them
+-- the closing lines of the report were written, and the status is the answer; or the report failed at them
 abbrev pub Ends : (answer said : Status) → (half full : Report) → (closing : List ℕ) → Type 0
 Ends answer said half full closing =
     ((said ≡ answer) × Writes half.written full.written closing × (full.faults ≡ half.faults))
@@ -35,7 +35,7 @@ input-counts : (is_file : Bool) (before now : ℕ) (reported : Reported) → Inp
 input-counts true before now reported same = record { never_falls = omega (arith, same); rose = tt; still = same }
 input-counts false before now reported h = h
 
--- and where the report failed, no count but its own rose
+-- and if the report failed, no count but its own rose
 input-stays : (is_file : Bool) (before now : ℕ) (failed : Failed) → InputTold is_file before now (Err failed) → now ≡ before
 input-stays true before now failed same = same
 input-stays false before now failed same = same
@@ -44,7 +44,8 @@ files-stay : (is_file : Bool) (before now : ℕ) (failed : Failed) → HasCause 
 files-stay true before now failed h = h.still
 files-stay false before now failed h = h.still
 
--- the command was carried out, and its report ends in this way; it began with what the report had before the command was read
+-- the command was carried out, and its report ends in this way; it began with what the report had before the command
+-- was read
 carried-out : (arguments : List (List ℕ)) (s : OutsideChange) (reported : Reported) (said : Status) (blank full : Report) → s.blank ≡ blank →
     (d : Decided arguments s (Ok reported)) →
     Ends reported.status said (record s.blank { written = d.comes.3.told }) full d.comes.1 → IsTop arguments (change_of s.before s.after blank full) said
@@ -67,7 +68,7 @@ carried-out arguments s reported said blank full same d ends =
       });
     })
 
--- its report was put, and all of it was passed on
+-- its report was written, and all of it was passed on
 pub top-put : (arguments : List (List ℕ)) (s : OutsideChange) (reported : Reported) (blank full : Report) → s.blank ≡ blank → Decided arguments s (Ok reported) →
     reported.put ≡ Ok tt →
     WritesNothing s.full.written full.written → full.faults ≡ s.full.faults → IsTop arguments (change_of s.before s.after blank full) reported.status
@@ -76,7 +77,7 @@ top-put arguments s reported blank full same d put passed still =
     carried-out arguments s reported reported.status blank full same d
     (inl (refl, text-before d.comes.3.told s.full.written full.written d.comes.1 closes.all passed, still ∙ closes.cause.still))
 
--- it was put, and the report failed as it passed it on
+-- it was written, and the report failed while passing it on
 pub top-unpassed : (arguments : List (List ℕ)) (s : OutsideChange) (reported : Reported) (blank full : Report) → s.blank ≡ blank → Decided arguments s (Ok reported) →
     reported.put ≡ Ok tt →
     WritesNothing s.full.written full.written → Rose s.full.faults full.faults → IsTop arguments (change_of s.before s.after blank full) status.WriteFault
@@ -89,7 +90,7 @@ top-unpassed arguments s reported blank full same d put passed rose =
       subst (λ (n : ℕ). Rose n full.faults) closes.cause.still rose,
     ))
 
--- the report failed at the lines that close it
+-- the report failed at its closing lines
 pub top-failed : {failed : Failed} (arguments : List (List ℕ)) (s : OutsideChange) (reported : Reported) (blank : Report) → s.blank ≡ blank →
     Decided arguments s (Ok reported) → reported.put ≡ Err failed →
     IsTop arguments (change_of s.before s.after blank s.full) status.WriteFault
@@ -116,7 +117,7 @@ top-cut {failed = failed} arguments s blank same d = subst (λ (r : Report). IsT
       });
     })
 
--- a status that says of nothing that it failed says so of neither the files nor the streams
+-- a status that reports no failure reports none of the files and none of the streams
 record SaysNone (answer : Status) : Type 0 where
   files : files_answered answer ≡ Ok tt
   reading : reading_answered answer ≡ Ok tt
@@ -155,12 +156,12 @@ no-input-failed : (is_file : Bool) (answer : Status) → SaysNone answer → inp
 no-input-failed true answer none = refl
 no-input-failed false answer none = none.input
 
--- where there is no error a count stays
+-- if there is no error, a count is unchanged
 stays : (before now : ℕ) (r : Result (Unit {0}) (Unit {0})) → r ≡ Ok tt → HasCause before now r → now ≡ before
 stays before now (Ok u) e h = h.still
 stays before now (Err u) e h = absurd (cc)
 
--- so where the whole report was put too, no count rose
+-- so if the whole report was written too, no count rose
 completed-rose : (is_file : Bool) (before after : Outside) (blank full : Report) (answer : Status) →
     HasCauses is_file before after answer → says_fault answer ≡ false → full.faults ≡ blank.faults →
     NoneRose (change_of before after blank full)

@@ -10,16 +10,16 @@ use Rattle.cli_reports.specs.OutsideChanges.{OutsideChange}
 use Rattle.cli_reports.specs.declared.reporting.Reported.{Reported}
 use Rattle.cli_time.specs.Effects.{reading_reported}
 
--- an error where it was answered that a file could not be read; a program's input that is in a file counts as one
+-- an error if the answer says that a file could not be read; a program's input that is in a file counts as one
 abbrev pub files_told : (is_file : Bool) → Result Reported Failed → Result (Unit {0}) (Unit {0})
 files_told is_file result = if is_file then reading_reported result else files_reported result
 
--- the count of the faults of the input rose exactly where the answer says so; it stays where the program's input is in a file
+-- the input's count of faults rose exactly if the answer says so; it is unchanged if the program's input is in a file
 abbrev pub InputTold : (is_file : Bool) → (before now : ℕ) → Result Reported Failed → Type 0
 InputTold true before now result = now ≡ before
 InputTold false before now result = FaultsReported input_answered before now result
 
--- what the arguments ask for was carried out, or the report failed while it was
+-- the request of the arguments was carried out, or the report failed meanwhile
 pub record Decided (arguments : List (List ℕ)) (s : OutsideChange) (result : Result Reported Failed) : Type 0 where
   pub reading : Result Asked ℕ
   pub reads : ReadsArguments arguments reading

@@ -3,8 +3,8 @@ use Rattle.std.specs.Prelude.{ℕ, List, [], ◌∷◌, ◌++◌, Result, Ok, Er
 use Rattle.cli_arguments.specs.Arguments.{Asked, machine, run, moves, rounds, orders, conform, debug, time, audit, check, asm, listing, gen, help, version, help_on}
 use Rattle.cli_files.specs.Reads.{layout_files, files_of_layouts, input_files, script_files}
 
--- the layout, unless it is built in, the program, and the script or the trace where there is one; the delays, the
--- layouts, the program, and its input where there is a file of it; the one file of a command that names no other
+-- the layout, unless it is built in, the program, and the script or the trace if there is one; the delays, the layouts,
+-- the program, and its input if a file is named for it; the single file of a command that names no other
 abbrev pub files_of : Asked → List (List ℕ)
 files_of (machine program limit retired mul every) = program ∷ []
 files_of (run layout program schedule limit reporting) = (layout_files layout ++ program ∷ []) ++ script_files schedule
@@ -24,7 +24,7 @@ files_of help = []
 files_of (help_on name) = []
 files_of version = []
 
--- arguments that ask for nothing name no file
+-- refused arguments name no file
 abbrev pub files_named : Result Asked ℕ → List (List ℕ)
 files_named (Ok asked) = files_of asked
 files_named (Err index) = []

@@ -1,5 +1,5 @@
--- What the help text of the program tells: each command and each option of the command line, each status, and the limits
--- (a text of this project).
+-- What the help text of the program describes: each command and each option of the command line, each status, and the
+-- limits (a text of this project).
 use Rattle.std.specs.Prelude.{◌≡◌, ℕ, ◌/◌, List, [], ◌∷◌, ◌++◌, codes, decimal, take, nat_eq, Bool, true, false, if◌then◌else◌, ◌||◌}
 use Rattle.std.specs.List.{starts_with}
 use Rattle.run_options.specs.Limits.{most_limit, most_timed_limit}
@@ -12,26 +12,26 @@ use Rattle.cli_files.specs.declared.status.Status.{Status}
 use Rattle.cli_files.specs.declared.status.Status.TheVariants as status
 use Rattle.cli_help.specs.Help.{operands}
 
--- the part stands somewhere in the text
+-- the part occurs in the text
 unfoldable pub stands_in : List ℕ → List ℕ → Bool
 stands_in part [] = false
 stands_in part (byte ∷ rest) = starts_with nat_eq (byte ∷ rest) part || stands_in part rest
 
--- the part begins a line, behind two blanks
+-- the part begins a line, after two blanks
 abbrev pub begins_line : List ℕ → List ℕ → Bool
 begins_line part text = stands_in (10 ∷ codes "  " ++ part) text
 
--- a command's arguments up to the first one in brackets, which may be left out
+-- a command's arguments up to the first optional one, which is in brackets
 unfoldable pub before_brackets : List ℕ → List ℕ
 before_brackets [] = []
 before_brackets (byte ∷ rest) =
     if starts_with nat_eq (byte ∷ rest) (codes " [") then [] else byte ∷ before_brackets rest
 
--- how a command is called with the arguments that it needs
+-- the call of a command with the arguments that it needs
 abbrev pub call_of : CommandName → List ℕ
 call_of name = codes "cfpp " ++ before_brackets (command_name name ++ codes " " ++ operands name)
 
--- what each status says
+-- the meaning of each status
 abbrev pub meaning : Status → List ℕ
 meaning (status.Exit code) = codes "the program's own status"
 meaning (status.Trap cause pc detail) = codes "the program trapped"
@@ -55,13 +55,13 @@ meaning status.Wrong = codes "an order is wrong"
 meaning (status.TooMany most) = codes "the limit was reached"
 meaning status.BadInput = codes "the input is refused"
 
--- the number of a status, in a column of five, and what it says; a program's own status has no number here
+-- the number of a status, in a column of five, and its meaning; a program's own status has no number here
 abbrev pub status_told : Status → List ℕ
 status_told (status.Exit code) = meaning (status.Exit code)
 status_told said = codes "  " ++ take 5 (decimal (exit_code said) ++ codes "     ") ++ meaning said
 
--- the text tells of each command that has a help text of its own, of each option of these, of each status with its number, of the
--- greatest limit, also without a letter, of the limit where none is given, and of the greatest seed
+-- the text has each command that has a help text of its own, each option of these, each status with its number, the
+-- maximum limit, with and without a letter, the default limit, and the largest seed
 pub record IsOverview (text : List ℕ) : Type 0 where
   pub commands : (name : CommandName) → has_help name ≡ true → begins_line (call_of name) text ≡ true
   pub options : (key : Key) → begins_line (option_name key) text ≡ true

@@ -1,4 +1,4 @@
--- What the top call answers, and what it leaves of the outside.
+-- The answer of the top call, and its effect on the outside.
 use Rattle.std.specs.Prelude.{◌≡◌, ◌⊎◌, ℕ, List, ◌++◌, codes, Bool, true, false, if◌then◌else◌, Option, Result, Ok, Err}
 use Rattle.run_options.specs.declared.reporting.Reporting.{Reporting}
 use Rattle.run_options.specs.declared.show.Show.TheVariants as shows
@@ -37,12 +37,12 @@ use Rattle.cli_run.specs.declared.tail.Tail.TheVariants.{Nothing, Moves}
 use Rattle.cli_files.specs.declared.status.Status.{Status}
 use Rattle.cli_files.specs.declared.status.Status.TheVariants as status
 
--- the arguments ask this of a command, or this is the index of the first argument that has no place
+-- the arguments ask for this command, or this is the index of the first unexpected argument
 abbrev pub ReadsArguments : List (List ℕ) → Result Asked ℕ → Type 0
 ReadsArguments arguments (Ok asked) = Asks arguments asked
 ReadsArguments arguments (Err index) = IsBadAt arguments index
 
--- the arguments are those of no command, and no file was read
+-- the arguments are not those of any command, and no file was read
 pub record RefusesArguments (index : ℕ) (before after : Outside) (answer : Status)
     (report : List ℕ) : Type 0 where
   pub status_is : answer ≡ status.BadWords index
@@ -50,18 +50,18 @@ pub record RefusesArguments (index : ℕ) (before after : Outside) (answer : Sta
   pub reports : report ≡ counted_line (codes "bad words at ") index
   pub streams : after.streams ≡ before.streams
 
--- a text was put to the output, or the output failed while it was put, and nothing else was touched
+-- a text was written to the output, or the output failed while it was written, and nothing else was touched
 pub record PutsAlone (text : List ℕ) (before after : Outside) (answer : Status) (report : List ℕ) : Type 0 where
   pub put : PutsOrFails text before.streams.output after.streams.output answer report
   pub files : after.files ≡ before.files
   pub input : after.streams.input ≡ before.streams.input
 
--- `moves` shows nothing of a run but how far it has come
+-- `moves` shows nothing of a run except how far it has come
 abbrev pub closing_and : (every : Option ℕ) → Reporting
 closing_and every = record { show = shows.Report; every = every }
 
--- by what the arguments ask for: the answer, what is shown of a run, and the lines that close the report, after what the
--- report told before; what is shown and these lines together are the whole report
+-- for what the arguments ask: the answer, what is shown of a run, and the closing lines of the report, after its text
+-- so far; together, what is shown and these lines are the whole report
 abbrev pub Answers : Result Asked ℕ → Outside → Outside → Option (List ℕ) → Status → (shown closing : List ℕ) → Type 0
 Answers (Ok (machine program limit retired mul every)) before after blank answer shown closing =
     AnswersMachine program (chosen_of limit retired mul every) before after answer shown closing
@@ -119,8 +119,9 @@ Breaks (Ok (time delays program layouts chosen)) before after blank full =
 Breaks (Ok asked) before after blank full = ⊥
 Breaks (Err index) before after blank full = ⊥
 
--- what was shown was put, and after it the closing lines, and the status is the answer; or the report failed at these, of
--- which it has a prefix, or as it passed on what it had gathered, its count of faults rose, and the status is WriteFault
+-- what was shown was written, then the closing lines, and the status is the answer; or the report failed at the closing
+-- lines, of which it has a prefix, or while passing on what it had gathered, its count of faults rose, and the status
+-- is WriteFault
 pub record Reports (before after : Report) (shown closing : List ℕ) (answer result : Status) : Type 0 where
   pub told : Option (List ℕ)
   pub shows : Writes before.written told shown
@@ -132,15 +133,15 @@ abbrev pub input_is_file : Result Asked ℕ → Bool
 input_is_file (Ok (time delays program layouts chosen)) = true
 input_is_file _ = false
 
--- an error where the answer is that a file could not be read, and where it is that the program's input could not be; an input that is
--- in a file counts as a file
+-- an error if the answer is that a file could not be read, and one if it is that the program's input could not be; an
+-- input in a file counts as a file
 abbrev pub files_failed : (is_file : Bool) → Status → Result (Unit {0}) (Unit {0})
 files_failed is_file answer = if is_file then reading_answered answer else files_answered answer
 
 abbrev pub input_failed : (is_file : Bool) → Status → Result (Unit {0}) (Unit {0})
 input_failed is_file answer = if is_file then Ok tt else input_answered answer
 
--- the command was carried out, with this answer and this report; a count of faults rose exactly where the answer says so
+-- the command was carried out, with this answer and this report; a count of faults rose exactly if the answer says so
 pub record Completes (reading : Result Asked ℕ) (before after : Outside) (blank full : Report)
     (result : Status) : Type 0 where
   pub answer : Status
@@ -152,7 +153,7 @@ pub record Completes (reading : Result Asked ℕ) (before after : Outside) (blan
   pub output : HasCause before.output_faults after.output_faults (output_answered answer)
   pub reports : Reports blank full shown closing answer result
 
--- the report failed while the command was carried out, and nothing else did; the status is WriteFault
+-- the report failed while the command was carried out, and nothing else failed; the status is WriteFault
 pub record ReportFailsFirst (reading : Result Asked ℕ) (before after : Outside) (blank full : Report)
     (result : Status) : Type 0 where
   pub status_is : result ≡ status.WriteFault
@@ -162,8 +163,8 @@ pub record ReportFailsFirst (reading : Result Asked ℕ) (before after : Outside
   pub input : after.input_faults ≡ before.input_faults
   pub output : after.output_faults ≡ before.output_faults
 
--- the top call: its arguments, the outside and the report before and after it, and its status; of the files that the arguments
--- name it read the first ones, in their order and each once
+-- the top call: its arguments, the outside and the report before and after it, and its status; of the files that the
+-- arguments name, it read the first ones, in order and each once
 pub record IsTop (arguments : List (List ℕ)) (s : OutsideChange) (result : Status) : Type 0 where
   pub reading : Result Asked ℕ
   pub reads : ReadsArguments arguments reading

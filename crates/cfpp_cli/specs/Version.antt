@@ -1,11 +1,11 @@
 -- What `--version` writes (a text of this project).
 use Rattle.std.specs.Prelude.{ℕ, List, ◌++◌, codes}
 
--- the program's version, which is the content of the file VERSION
+-- the program's version, as in the file VERSION
 abbrev pub program_version : List ℕ
 program_version = codes "0.9.0"
 
--- the kit that the proofs were made with, as `rt version` writes it
+-- the kit with which the proofs were made, as `rt version` writes it
 abbrev pub kit_version : List ℕ
 kit_version = codes "rattle-kit-13f logic dac8208d650f15bf"
 

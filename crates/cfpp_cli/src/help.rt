@@ -69,7 +69,7 @@ README.md has a tour, docs/MANUAL.md all commands, docs/ERRORS.md each refusal,
 docs/SEMANTICS.md the moves, docs/ASSEMBLY.md the assembler's language.
 ";
 
-/// The version, and the kit that the proofs were made with.
+/// The version, and the kit with which the proofs were made.
 const VERSION: &[u8] = b"cfpp 0.9.0 (rattle-kit-13f logic dac8208d650f15bf)\n";
 
 /// What `help` and `--help` write: how each command is called, what each option does, and what each status says.

@@ -1,4 +1,5 @@
-//! The top call of the simulator: the table of the commands, from the arguments of the command line to a status and a report.
+//! The top call of the simulator: it carries out what the arguments of the command line ask for, and gives a status and
+//! a report.
 #![tactic(auto)]
 
 mod help;

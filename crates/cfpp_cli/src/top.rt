@@ -28,7 +28,8 @@ use cli_run::{Tail, run_processor};
 use cli_time::compare_layouts;
 use std::alloc::Global;
 
-/// Carries out what the arguments ask for, and puts its report. It fails where the report fails before the lines that close it.
+/// Carries out what the arguments ask for, and writes its report. It fails if the report fails before its closing
+/// lines.
 fn decide<F: Files, S: Source, K: Sink, R: ReportSink>(
     alloc: Global,
     arguments: &[String],
@@ -170,8 +171,8 @@ fn decide<F: Files, S: Source, K: Sink, R: ReportSink>(
     }
 }
 
-/// Lets the report gather, where each instruction or each move of a run has its lines. Lines that come now and then, such
-/// as those of `--every`, are to be seen as they come.
+/// Lets the report gather its text if each instruction or each move of a run has lines in it. Occasional lines, such as
+/// those of `--every`, have to be visible as they come.
 fn let_gather<R: ReportSink>(arguments: &[String], report: &mut R)
     ensures { report_in R.Sink report.new ≡ report_in R.Sink report.old }
 {
@@ -186,36 +187,36 @@ fn let_gather<R: ReportSink>(arguments: &[String], report: &mut R)
     }
 }
 
-/// Does what the arguments say: `machine PROGRAM` runs a program's file on the sequential machine, `run LAYOUT PROGRAM` on
-/// the processor of a layout, by the moves of a script with `--script FILE`, by moves drawn from a seed with `--seed
-/// N`, and by a fixed rule without either; `moves LAYOUT PROGRAM --script FILE` does the same and then says which
+/// Does what the arguments say: `machine PROGRAM` runs a program's file on the sequential machine, `run LAYOUT PROGRAM`
+/// on the processor of a layout, by the moves of a script with `--script FILE`, by moves drawn from a seed with
+/// `--seed N`, and otherwise by a fixed rule; `moves LAYOUT PROGRAM --script FILE` does the same and then says which
 /// moves can be made where the script ends. `rounds LAYOUT PROGRAM` runs the processor in rounds of moves that share no
 /// place, as a clocked one would; with `--guess R`, it and a run without a script keep to the guesses of a rule.
-/// `debug LAYOUT PROGRAM` answers commands from the input, which make moves, show the processor and take moves back,
-/// `audit LAYOUT PROGRAM TRACE` says whether a recorded trace is that of a run, `conform LAYOUT PROGRAM` goes through the
-/// log of a circuit on the input, makes its moves and compares its observations, and `time DELAYS PROGRAM LAYOUT ..`
-/// compares how long the program takes on up to eight layouts, with the bytes of a file as its input on each where `--input`
-/// names one, and with `--show sites` says what each of these times is made of. `orders LAYOUT PROGRAM` goes through all orders of
-/// the first moves of a program, and puts the first wrong one to the output, where one of the processor's rules is taken away.
-/// `check LAYOUT` writes a layout to the output in its canonical form, `asm SOURCE` the ELF file of an assembly source,
-/// `list PROGRAM` a program's listing, and `gen N` the text of a program that is drawn from a number, which `gen N
-/// --run` assembles and runs. `help COMMAND` writes the help text of a command; `help`, `--help`, `-h`, `--version` and
-/// `-V` write what their names say.
+/// `debug LAYOUT PROGRAM` answers commands from the input, which make moves, show the processor and take moves back.
+/// `audit LAYOUT PROGRAM TRACE` says whether a recorded trace is that of a run. `conform LAYOUT PROGRAM` processes the
+/// log of a circuit on the input, makes its moves and compares its observations. `time DELAYS PROGRAM LAYOUT ..`
+/// compares how long the program takes on up to eight layouts, on each with the bytes of a file as its input if
+/// `--input` names one, and with `--show sites` says what each of these times is made of. `orders LAYOUT PROGRAM` tries
+/// all orders of the first moves of a program, and writes the first wrong one to the output, if one of the processor's
+/// rules is taken away. `check LAYOUT` writes a layout to the output in its canonical form, `asm SOURCE` the ELF file
+/// of an assembly source, `list PROGRAM` a program's listing, and `gen N` the text of a program that is drawn from a
+/// number, which `gen N --run` assembles and runs. `help COMMAND` writes the help text of a command; `help`, `--help`,
+/// `-h`, `--version` and `-V` write what their names say.
 ///
-/// The file is an ELF executable for RISC-V, whose segments are loaded, or else a flat image, which stands at
-/// 0x00010000 in one region that may be read, written and executed, and begins there; a zeroed stack of 1 MiB stands at
-/// 0x7f000000. `--limit N` sets the number of retired instructions at which the run stops, 10,000,000 without it;
-/// `--show retired` puts a line to the report for each instruction as it retires, and `--show report`, which is the
-/// default, no line; under `run`, `--show moves` puts each move with the picture after it; `--every N` puts how far a run has
-/// come after each N retired instructions; with `--mul` the machine multiplies and divides. `input` and `output` are the program's own.
+/// The file is an ELF executable for RISC-V, whose segments are loaded, or otherwise a flat image: one region at
+/// 0x00010000 that may be read, written and executed, with the entry at its start. A zeroed stack of 1 MiB is at
+/// 0x7f000000. `--limit N` sets the number of retired instructions at which the run stops, by default 10,000,000.
+/// `--show retired` writes a line to the report for each instruction as it retires, and `--show report`, the default,
+/// none; under `run`, `--show moves` writes each move followed by the picture. `--every N` writes how far a run has
+/// come after each N retired instructions; with `--mul` the machine multiplies and divides. `input` and `output` are
+/// the program's own.
 ///
-/// The report closes with how the run finished, how many instructions retired, and what the registers hold; after a run
-/// of the processor the counts of its moves and the picture stand there too, after a run in rounds the number of rounds, and
-/// after a log the number of observations that agreed.
-/// Where nothing was run it is one line that says why. After `audit` it gives the number of moves of the trace, after `time`
-/// it has the lines of each layout and names the first with the least time, after `debug` it has the answers to the
-/// commands, and after any other command that was carried out it is empty. After a report that failed nothing more is
-/// put to it, and the status is `WriteFault`.
+/// The report closes with how the run finished, how many instructions retired, and what the registers hold. After a run
+/// of the processor it also has the counts of its moves and the picture, after a run in rounds the number of rounds,
+/// and after a log the number of observations that agreed. If nothing was run it is one line that says why. After
+/// `audit` it gives the number of moves of the trace. After `time` it has the lines of each layout and names the first
+/// with the least time. After `debug` it has the answers to the commands, and after any other command that was carried
+/// out it is empty. If the report fails, nothing more is written to it, and the status is `WriteFault`.
 ///
 /// A report that can gather its text passes it on before each call of the program that may read or write, and at the end:
 /// unless the status is `WriteFault`, nothing is kept.

@@ -1,4 +1,5 @@
--- The first argument that cannot be read is the first that has no place: the arguments before it can be completed to a command.
+-- The first argument that cannot be read is the first unexpected one: the arguments before it can be completed to a
+-- command.
 use Rattle.std.proofs.Common.{◌≡◌, ◌≤◌, ◌<◌, ◌+◌, ℕ, List, [], ◌∷◌, ◌++◌, length, take, drop, get_or, min, refl, arith, inl, inr, Option}
 use Rattle.std.proofs.Common.{Some, None, sym, ◌∙◌, subst, ap}
 use Rattle.std.proofs.lemmas.List.{length-take, length-take-le, take-append-le, take_more, take_all, take-take, take-append-drop}
@@ -20,7 +21,7 @@ begun arguments last h =
     take-append-le (length arguments) arguments c.more (omega arith) ∙ take-length arguments in
     (arguments ++ c.more, c.asked, reads-sound (arguments ++ c.more) c.last c.asked c.read c.done, t)
 
--- an argument that cannot follow has no place
+-- an argument that cannot follow is unexpected
 read-prefix : (found : Option ReadingState) (arguments more : List (List ℕ)) (last : ReadingState) →
     reads start arguments ≡ found →
     reads start (arguments ++ more) ≡ Some last → found ≡ None → ⊥
@@ -72,7 +73,7 @@ bad-argument arguments index state inside h none = record {
   no_further = bad-here arguments index state inside h none;
 }
 
--- where the arguments end too early, one is missing
+-- if the arguments end too early, one is missing
 whole : (arguments command : List (List ℕ)) →
     take (length arguments + 1) command ≡ take (length arguments + 1) arguments → command ≡ arguments
 whole arguments command same =
@@ -110,12 +111,12 @@ bad-end arguments index state at-end h none =
           (subst (λ (n : ℕ). take (n + 1) command ≡ take (n + 1) arguments) at-end same);
     }
 
--- arguments with a bad one among them ask nothing, and only one argument is the first bad one
+-- arguments with a bad one among them ask for nothing, and only one argument is the first bad one
 pub bad-asks-nothing : (arguments : List (List ℕ)) (index : ℕ) (asked : Asked) → IsBadAt arguments index →
     Asks arguments asked → ⊥
 bad-asks-nothing arguments index asked bad asks = bad.no_further arguments asked asks refl
 
--- what agrees on more arguments agrees on fewer
+-- agreement on more arguments implies agreement on fewer
 fewer : (n m : ℕ) (xs ys : List (List ℕ)) → n ≤ m → take m xs ≡ take m ys → take n xs ≡ take n ys
 fewer n m xs ys le same =
     sym (take-take n m xs le) ∙ (ap (λ (zs : List (List ℕ)). take n zs) same ∙ take-take n m ys le)

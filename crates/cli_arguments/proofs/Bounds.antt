@@ -1,4 +1,4 @@
--- The numbers that are asked for are within their bounds.
+-- The requested numbers are within their bounds.
 use Rattle.std.proofs.Common.{◌≡◌, ◌≤◌, ℕ, List, [], ◌∷◌, length, map, Bool, true, false, refl, arith, if◌then◌else◌, Option, Some, None}
 use Rattle.std.proofs.Common.{IfSome, option_map, subst}
 use Rattle.std.specs.List.{list_all}
@@ -21,7 +21,7 @@ use Rattle.cli_arguments.proofs.Settings.{both}
 abbrev IsUpTo : ℕ → ℕ → Type 0
 IsUpTo most n = (1 ≤ n) × (n ≤ most)
 
--- numbers that options of a command give are within their bounds
+-- numbers that a command's options give are within their bounds
 record AreWithin (name : CommandName) (limit every issues states : Option ℕ) : Type 0 where
   limited : IfSome limit (λ n. n ≤ most_limit_of name)
   stepped : IfSome every IsStep
@@ -59,7 +59,7 @@ all-within name (setting ∷ settings) taken =
     more-within name setting settings (both (takes_key name (setting_key setting)) (is_value name setting) b.0).1
     (all-within name settings b.1)
 
--- so is what is asked where an option is not given
+-- so is what is asked for if an option is not given
 limit-within : (name : CommandName) (limit : Option ℕ) → IfSome limit (λ n. n ≤ most_limit_of name) → default_limit ≤ most_limit_of name →
     unwrap_or limit default_limit ≤ most_limit_of name
 limit-within name None h few = few
@@ -85,7 +85,7 @@ count-bounded : (argument : List ℕ) (number : ℕ) → count_in argument ≡ S
 unfolding positive_in
 count-bounded argument number h = count-tested (is_positive most_statements argument) argument number refl h
 
--- what is asked of a command
+-- what is requested of a command
 record Fits (name : CommandName) (asked : Asked) : Type 0 where
   bounded : IsBounded asked
 

@@ -62,7 +62,7 @@ complete-argument arguments argument c =
       done = ap (λ (ws : List (List ℕ)). completed ws c.last) (sym same) ∙ c.done;
     }
 
--- enough positional arguments ask something, or, for `moves`, only the script is missing
+-- enough positional arguments ask for something, or, for `moves`, only the script is missing
 record LacksScript (name : CommandName) (arguments : List (List ℕ)) (given : Given) : Type 0 where
   takes : takes_key name keys.Script ≡ true
   fresh : has_key given keys.Script ≡ false
@@ -167,7 +167,7 @@ enough-ask names.Version (w ∷ ws) given enough few each guessed = absurd (omeg
 enough-ask names.VersionLetter [] given enough few each guessed = inl (_, refl)
 enough-ask names.VersionLetter (w ∷ ws) given enough few each guessed = absurd (omega (arith, enough, few))
 
--- more arguments leave the positional ones as they are
+-- further arguments leave the positional ones as they are
 positional-more : (count : ℕ) (arguments more : List (List ℕ)) → 1 + count ≤ length arguments →
     positional_in count (arguments ++ more) ≡ positional_in count arguments
 positional-more count [] more h = absurd (omega (arith, h))
@@ -198,7 +198,7 @@ scripted arguments subject given state stands h same lacks =
 arguments-nil : (arguments : List (List ℕ)) → arguments ++ [] ≡ arguments
 arguments-nil arguments = append-nil arguments
 
--- nothing after what asks something
+-- nothing may follow a complete request
 asked-now : (arguments : List (List ℕ)) (state : ReadingState) (asked : Asked) → reads start arguments ≡ Some state →
     completed arguments state ≡ Some asked → Completion arguments
 asked-now arguments state asked h done = record {
@@ -268,7 +268,7 @@ fewest-most names.HelpLetter = omega arith
 fewest-most names.Version = omega arith
 fewest-most names.VersionLetter = omega arith
 
--- that many more
+-- with this many more positional arguments, which are missing
 complete-places : (missing : ℕ) (arguments : List (List ℕ)) (subject : Subject) →
     subject.count ≤ most subject.name → fewest subject.name ≤ subject.count + missing →
     1 + subject.count ≤ length arguments → reads start arguments ≡ Some (placed subject) → Completion arguments
@@ -309,7 +309,7 @@ shown-some names.HelpLetter h = absurd (cc)
 shown-some names.Version h = absurd (cc)
 shown-some names.VersionLetter h = absurd (cc)
 
--- any command that has a limit may have the least
+-- any command that has a limit may have the smallest one
 least-limit : (name : CommandName) → is_amount_within 0 (most_limit_of name) (codes "0") ≡ true
 unfolding is_amount amount_of digits_in unit_of
 least-limit name = grind (arith, nat_tests)

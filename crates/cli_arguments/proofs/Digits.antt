@@ -1,4 +1,4 @@
--- Words of digits: the test of each byte, and what is parsed.
+-- Arguments of digits: the test of each byte, and what is parsed.
 use Rattle.std.proofs.Common.{◌≡◌, ◌≤◌, ◌<◌, ◌^◌, ℕ, List, [], ◌∷◌, true, refl, arith, length, Result, Ok, Err, subst}
 use Rattle.std.proofs.Math.Nat.{pow-le-pow_right}
 use Rattle.std.proofs.lemmas.Bool.Decides.{nat_tests}
@@ -33,7 +33,7 @@ value-fits longest argument short digits =
     let b : 10 ^ length argument ≤ 10 ^ longest = pow-le-pow_right (omega arith) short in
     omega arith
 
--- what an argument of digits is
+-- the properties of an argument of digits
 record IsSpelt (longest : ℕ) (argument : List ℕ) : Type 0 where
   digits : AllDigits 10 argument
   short : length argument ≤ longest

@@ -1,4 +1,4 @@
--- Reading accepts exactly the arguments of the grammar, and gives what they ask; so arguments ask at most one thing.
+-- Reading accepts exactly the arguments of the grammar, and gives their request; so arguments have at most one request.
 use Rattle.std.proofs.Common.{◌≡◌, ◌≤◌, ◌+◌, ℕ, List, [], ◌∷◌, ◌++◌, length, true, refl, arith, Option, Some, inl, inr, sym, ◌∙◌, subst, ap}
 use Rattle.std.specs.List.{list_all}
 use Rattle.std.proofs.lemmas.List.{take-append-le}
@@ -117,7 +117,7 @@ placing (argument ∷ arguments) subject last few h whole =
           (reads-step (options subject nothing_given) argument arguments s.later followed ∙ s.rest) whole)
     ]
 
--- where something is asked no value is missing
+-- in a complete request no value is missing
 asked-whole : (arguments : List (List ℕ)) (last : ReadingState) (asked : Asked) → completed arguments last ≡ Some asked →
     IsWhole last
 unfolding completed
@@ -126,7 +126,7 @@ asked-whole arguments (placed subject) asked h = tt
 asked-whole arguments (options subject given) asked h = tt
 asked-whole arguments (valued subject given key) asked h = absurd (cc)
 
--- nor a positional argument
+-- nor is a positional argument
 asked-enough : (name : CommandName) (arguments : List (List ℕ)) (given : Given) (asked : Asked) →
     asked_by name arguments given ≡ Some asked → fewest name ≤ length arguments
 asked-enough names.Machine [] given asked h = absurd (cc)
@@ -205,7 +205,7 @@ placing-asks name arguments last asked done p =
       means = means;
     }
 
--- what is read is asked
+-- what is read is what the arguments ask for
 pub reads-sound : (arguments : List (List ℕ)) (last : ReadingState) (asked : Asked) → reads start arguments ≡ Some last →
     completed arguments last ≡ Some asked → Asks arguments asked
 reads-sound [] last asked h done =
@@ -266,7 +266,7 @@ positional-read (argument ∷ arguments) last subject h whole of =
     subst (λ (w : List ℕ). HasPositional (w ∷ arguments) subject) (sym r.argument_is)
     (placing-positional r.name arguments last subject of (placing arguments (unplaced r.name) last (omega arith) h1 whole))
 
--- what is asked is read: positional arguments
+-- what the arguments ask for is read: positional arguments
 places-read : (more : List (List ℕ)) (subject : Subject) (arguments : List (List ℕ)) →
     list_all (is_positional subject.name) more ≡ true → subject.count + length more ≤ most subject.name →
     reads (placed subject) (more ++ arguments) ≡ reads (placed (grown subject (length more))) arguments
@@ -281,7 +281,7 @@ places-read (argument ∷ more) subject arguments each few =
     ∙ (places-read more (one_place_more subject) arguments b.1 (omega (arith, few))
     ∙ ap (λ (n : ℕ). reads (placed (record { name = subject.name; count = n })) arguments) e)
 
--- what arguments are read, and what they ask
+-- which arguments are read, and what they ask for
 pub record Read (arguments : List (List ℕ)) (asked : Asked) : Type 0 where
   pub last : ReadingState
   pub read : reads start arguments ≡ Some last
@@ -330,7 +330,7 @@ asks-read arguments asked asks =
       done = ap (λ (ws : List (List ℕ)). completed ws b.0) c.arguments_are ∙ b.2;
     }
 
--- arguments ask at most one thing
+-- arguments ask for at most one thing
 pub asks-one : (arguments : List (List ℕ)) (one other : Asked) → Asks arguments one → Asks arguments other →
     one ≡ other
 asks-one arguments one other a b =

@@ -1,4 +1,4 @@
--- Words read in turn.
+-- Arguments read in turn.
 use Rattle.std.proofs.Common.{◌≡◌, ℕ, List, [], ◌∷◌, ◌++◌, refl, Option, Some, None, sym, ◌∙◌, ap}
 use Rattle.cli_arguments.specs.Reading.{ReadingState, follow}
 

@@ -12,7 +12,7 @@ use Rattle.std.proofs.lemmas.Str.Pattern.{strip_suffix_char}
 use Rattle.std.proofs.Math.Seq.{take-length}
 use Rattle.cli_arguments.specs.Values.{before_letter}
 
--- a letter behind other bytes is the last
+-- a letter after other bytes is the last
 last-length : (front : List ℕ) (letter : ℕ) → length (front ++ letter ∷ []) - 1 ≡ length front
 last-length front letter = omega (arith, length-append front (letter ∷ []))
 
@@ -29,7 +29,7 @@ before-so front letter =
     ap (λ (n : ℕ). take n (front ++ letter ∷ [])) (last-length front letter)
     ∙ (take-append-le (length front) front (letter ∷ []) (omega arith) ∙ take-length front)
 
--- no argument ends with it but those with other bytes before it
+-- an argument ends with the letter only if the letter comes after other bytes
 ends-not : (argument : List ℕ) (letter : ℕ) → ((front : List ℕ) → argument ≢ front ++ letter ∷ []) →
     ends_with nat_eq argument (letter ∷ []) ≡ false
 ends-not argument letter other = by (ends_with nat_eq argument (letter ∷ [])) refl
@@ -43,7 +43,7 @@ ends-not argument letter other = by (ends_with nat_eq argument (letter ∷ [])) 
         (sym (take-append-drop (length argument - 1) argument)
         ∙ ap (λ (xs : List ℕ). take (length argument - 1) argument ++ xs) (sym dropped)))
 
--- what is left of an argument without its last letter
+-- the part of an argument before its last letter
 stripped-by : (letter : ℕ) (argument : List ℕ) (r : Option (Bor (List ℕ))) →
     MatchOption r ((front : List ℕ) → argument ≢ front ++ letter ∷ []) (λ x. argument ≡ x.now ++ letter ∷ []) →
     option_map (λ x. x.now) r ≡ before_letter letter argument

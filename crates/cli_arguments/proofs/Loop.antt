@@ -1,4 +1,4 @@
--- One turn of the loop over the arguments, and what is answered after it.
+-- One turn of the loop over the arguments, and the answer after it.
 use Rattle.std.proofs.Common.{◌≡◌, ◌≤◌, ◌<◌, ◌+◌, ℕ, List, [], ◌∷◌, length, map, take, get_or, arith, Option, Some, None, option_map}
 use Rattle.std.proofs.Common.{Result, Ok, Err, MatchResult, IfOk, sym, ◌∙◌, subst, ap}
 use Rattle.std.specs.Option.{ok_or}
@@ -18,7 +18,7 @@ argument-at : {X : Type 0} → (bytes : X → List ℕ) (items : List X) (index 
 argument-at bytes items index item inside at =
     get_or-map bytes items index item [] inside ∙ ap (λ x. bytes x) (sym at)
 
--- an argument that has no place
+-- an unexpected argument
 pub stops : {X : Type 0} → (bytes : X →
     List ℕ) (items : List X) (index count : ℕ) (item : X) (state : ReadingState) (argument : List ℕ) →
     index < length items → item ≡ get_or items index item → count ≡ index →
@@ -32,7 +32,7 @@ stops bytes items index count item state argument inside at counted h argument-i
     bad-argument (map bytes items) count state (omega (arith, length-map items bytes)) h
     (ap (λ (v : List ℕ). follow state v) w ∙ sym none)
 
--- an argument that has a place
+-- an expected argument
 pub goes-on : {X : Type 0} → (bytes : X →
     List ℕ) (items : List X) (index count : ℕ) (item : X) (state later : ReadingState)
     (argument : List ℕ) → index < length items → item ≡ get_or items index item → count ≡ index →
@@ -59,7 +59,7 @@ count-few bytes items count state inside h =
     h in
     omega (arith, length-take-le count (map bytes items) (omega (arith, length-map items bytes)))
 
--- what is answered to an accepted command and to arguments that are refused
+-- the answer to an accepted command and to refused arguments
 abbrev pub Answers : {C : Type 0} → List (List ℕ) → (C → Asked) → Result C ℕ → Type 0
 Answers arguments asks result =
     MatchResult result (λ command. Asks arguments (asks command)) (λ index. IsBadAt arguments index)

@@ -1,4 +1,4 @@
--- Which states are reached, and how many arguments lead there: thirty-four at most.
+-- Which states are reached, and by how many arguments: at most thirty-four.
 use Rattle.std.proofs.Common.{◌≡◌, ◌≤◌, ◌+◌, ℕ, List, [], ◌∷◌, length, Bool, true, false, refl, arith, Option, Some, None, inl, inr, ◌||◌, sym, ◌∙◌, subst, ap}
 use Rattle.std.proofs.lemmas.Bool.Decides.{nat_tests}
 use Rattle.cli_arguments.specs.declared.names.CommandName.{CommandName}
@@ -18,7 +18,7 @@ pub record HasPlaces (subject : Subject) : Type 0 where
   pub enough : fewest subject.name ≤ subject.count
   pub few : subject.count ≤ most subject.name
 
--- a seed and a guess rule are given only where the command has these options
+-- a seed and a guess rule are given only if the command has these options
 abbrev pub IsGuessed : CommandName → Given → Type 0
 IsGuessed name given = (takes_key name keys.Seed ≡ false → is_there given.seed ≡ false)
     × (takes_key name keys.Guess ≡ false → is_there given.guess ≡ false)
@@ -204,12 +204,12 @@ size-last (argument ∷ arguments) state last reached h =
     size-last arguments s.later last (reached-next state argument s.later reached s.followed) s.rest in
     omega arith
 
--- the arguments that were read are as many as its state says
+-- the size of the state is the number of arguments that were read
 pub arguments-read : (arguments : List (List ℕ)) (last : ReadingState) → reads start arguments ≡ Some last →
     size last ≡ length arguments
 arguments-read arguments last h = let s = size-last arguments start last tt h in omega (arith, s)
 
--- so there are at least as many arguments as a command and its positional arguments have
+-- so there are at least a command and its positional arguments
 abbrev pub Stands : ℕ → ReadingState → Type 0
 Stands length start = Unit {0}
 Stands length (placed subject) = 1 + subject.count ≤ length

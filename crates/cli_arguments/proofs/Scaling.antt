@@ -4,7 +4,7 @@ use Rattle.std.specs.Prelude.{nat_eq}
 use Rattle.std.specs.Str.Parse.{digits_value}
 use Rattle.cli_arguments.specs.Values.{amount_in, amount_of, bounded, digits_in, is_amount, number_before, number_up_to, numeral_in, unit_of}
 
--- the number before the unit is there where the argument writes an amount
+-- the number before the unit exists if the argument writes an amount
 before-is : (argument : List ℕ) → number_before (unit_of argument) (digits_in argument) ≡ (if is_amount argument then Some (digits_value 10 (digits_in argument)) else None)
 unfolding number_before is_amount number_up_to numeral_in digits_in
 before-is argument = by (nat_eq (unit_of argument) 1) refl
@@ -14,7 +14,7 @@ before-is argument = by (nat_eq (unit_of argument) 1) refl
     by true e = rw e refl
     by false e = rw e refl
 
--- so there is no amount without it
+-- so without it there is no amount
 pub no-amount : (least most : ℕ) (argument : List ℕ) → number_before (unit_of argument) (digits_in argument) ≡ None → amount_in least most argument ≡ None
 unfolding amount_in
 no-amount least most argument none = by (is_amount argument) refl

@@ -1,4 +1,5 @@
--- The options after the positional arguments: read in turn they are a list in which none occurs twice, and give what is in it.
+-- The options after the positional arguments: read in turn they are a list in which none occurs twice, and give its
+-- contents.
 use Rattle.std.proofs.Common.{◌≡◌, ℕ, List, [], ◌∷◌, ◌++◌, Bool, true, false, refl, Option, Some, None, ◌&&◌, ◌||◌, sym, ◌∙◌, subst, ap}
 use Rattle.std.specs.Option.{option_or}
 use Rattle.std.specs.List.{list_all}
@@ -12,7 +13,7 @@ use Rattle.cli_arguments.specs.Reading.{ReadingState, start, placed, options, va
 use Rattle.cli_arguments.proofs.InTurn.{reads, reads-split, reads-step, none-left}
 use Rattle.cli_arguments.proofs.Steps.{put, has_value, value_of, option-read, value-read, option-follows, value-follows}
 
--- no option is excluded by one before it
+-- no earlier option excludes this one
 abbrev pub Fresh : Given → List Setting → Type 0
 Fresh given [] = Unit {0}
 Fresh given (setting ∷ settings) = (has_key given (setting_key setting) ≡ false) × Fresh (put given setting)
@@ -26,7 +27,7 @@ or-true : (b : Bool) → (b || true) ≡ true
 or-true true = refl
 or-true false = refl
 
--- an option that is given with the others excludes what it excludes
+-- an option that is given with the others excludes what it excludes by itself
 put-key : (given : Given) (setting : Setting) (key : Key) →
     has_key (put given setting) key ≡ (excludes (setting_key setting) key || has_key given key)
 put-key given (limit_to amount) keys.Limit = refl
@@ -70,7 +71,7 @@ put-keeps : (given : Given) (setting : Setting) (key : Key) → IsGiven given ke
 put-keeps given setting key is other e =
     put-key given setting other ∙ rw (is other e) (or-true (excludes (setting_key setting) other))
 
--- fresh options exclude none of each other
+-- fresh options do not exclude each other
 fresh-without : (settings : List Setting) (given : Given) (key : Key) →
     IsGiven given key → Fresh given settings → Without key settings
 fresh-without [] given key is fresh = tt
@@ -90,7 +91,7 @@ fresh-once (setting ∷ settings) given fresh = (
   fresh-once settings (put given setting) fresh.1,
 )
 
--- and options that exclude none of each other are fresh
+-- and options that do not exclude each other are fresh
 abbrev Clear : Given → List Setting → Type 0
 Clear given [] = Unit {0}
 Clear given (setting ∷ settings) = (has_key given (setting_key setting) ≡ false) × Clear given settings
@@ -241,7 +242,7 @@ tail-more subject given setting arguments last taken allowed fresh tail = record
   last_is = tail.last_is;
 }
 
--- an option with a value: what the arguments after its name are
+-- an option with a value: the arguments after its name
 tail-valued : (key : Key) (subject : Subject) (given : Given) (arguments : List (List ℕ)) (last : ReadingState) →
     takes_key subject.name key ≡ true → has_key given key ≡ false →
     reads (valued subject given key) arguments ≡ Some last → IsWhole last →

@@ -1,4 +1,4 @@
--- What one more argument says: which arguments may follow in each state, and what is known after them.
+-- What the next argument means: which arguments may follow in each state, and what is known after them.
 use Rattle.std.proofs.Common.{◌≡◌, ◌≤◌, ◌<◌, ◌⊎◌, ℕ, List, [], ◌∷◌, Bool, true, false, refl, arith, if◌then◌else◌, Option, Some, None}
 use Rattle.std.proofs.Common.{option_map, inl, inr, not, ◌&&◌, sym, ap}
 use Rattle.std.specs.Prelude.{is_some, nat_le, nat_lt}
@@ -83,7 +83,7 @@ both-tests true true h = (refl, refl)
 both-tests true false h = absurd (cc)
 both-tests false b h = absurd (cc)
 
--- an argument that has a place there
+-- an argument that is expected there
 pub place-tests : (subject : Subject) (argument : List ℕ) → has_place subject argument ≡ true →
     (subject.count < most subject.name) × (is_positional subject.name argument ≡ true)
 place-tests subject argument h =
@@ -121,7 +121,7 @@ pub placed-follows : (subject : Subject) (argument : List ℕ) → has_place sub
 unfolding follow
 placed-follows subject argument h = rw h refl
 
--- the argument of an option has no place among positional arguments
+-- the argument of an option is unexpected among positional arguments
 key-no-file : (key : Key) → is_file_name (option_name key) ≡ false
 key-no-file keys.Limit = refl
 key-no-file keys.Every = refl
@@ -183,7 +183,7 @@ key-no-place : (subject : Subject) (key : Key) → has_place subject (option_nam
 key-no-place subject key =
     rw (key-no-positional subject.name key) (and-false (nat_lt subject.count (most subject.name)))
 
--- so after enough positional arguments it is read as that of the first option
+-- so after enough positional arguments it is read as the argument of the first option
 pub first-option : (subject : Subject) (key : Key) → fewest subject.name ≤ subject.count →
     follow (placed subject) (option_name key) ≡ follow (options subject nothing_given) (option_name key)
 unfolding follow
@@ -260,7 +260,7 @@ shown-test name (Some other) shown h =
     let same : other ≡ shown = sym w.1 in
     (ap Some same, rw (← same) w.0)
 
--- the argument is the value of an option, with which this much more is given
+-- the argument is the value of an option, which gives this in addition
 record IsSetting (subject : Subject) (given more : Given) (key : Key) (argument : List ℕ) (setting : Setting) : Type 0 where
   key_is : setting_key setting ≡ key
   argument_is : value_arguments setting ≡ argument ∷ []

@@ -1,4 +1,4 @@
--- The arguments that name commands, options and what is shown: each names one, and is written in one way.
+-- The arguments that name commands, options and what is shown: each names one, and each has only one spelling.
 use Rattle.std.proofs.Common.{◌≡◌, ℕ, List, codes, Bool, true, false, Option, Some, None, refl, sym, ap, ◌∙◌}
 use Rattle.std.specs.Prelude.{if◌then◌else◌}
 use lib.Pointwise.{bytes_decides}
@@ -21,7 +21,7 @@ is-text argument text h = (bytes_decides argument text).0 h
 some_same : {T : Type 0} {one other : T} → Some one ≡ Some other → one ≡ other
 some_same h = cc
 
--- an argument is that of what it names: by the first text that it is, and if it is none, by those after it
+-- what an argument names is spelt as the argument: by the first text that equals it, or otherwise by one after that
 first-named : {T : Type 0} (argument text : List ℕ) (written : T → List ℕ) (here : T) (others : Option T) → written here ≡ text →
     ((name : T) → others ≡ Some name → argument ≡ written name)
     → (name : T) → (if is_text argument text then Some here else others) ≡ Some name → argument ≡ written name

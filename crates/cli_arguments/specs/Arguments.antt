@@ -1,4 +1,4 @@
--- The grammar of the project's command line: accepted arguments, what they ask, and the first argument that has no place.
+-- The grammar of the project's command line: accepted arguments, what they ask for, and the first unexpected argument.
 use Rattle.std.specs.Prelude.{◌≡◌, ◌≤◌, ◌+◌, ℕ, List, [], ◌∷◌, ◌++◌, codes, length, map, take, nat_eq, Bool, true, false, Option, Some, None, IfSome, option_map, if◌then◌else◌}
 use Rattle.std.specs.List.{list_all}
 use Rattle.std.specs.Option.{unwrap_or}
@@ -20,8 +20,8 @@ use Rattle.cli_arguments.specs.Values.{count_in}
 use Rattle.cli_arguments.specs.Commands.{command_name, fewest, most, is_positional, topic_in}
 use Rattle.cli_arguments.specs.Options.{Setting, setting_arguments, takes_setting, default_issues, default_limit, default_states, NoneTwice, Schedule, by_rule, Given, given_in, by_script, by_seed}
 
--- the arguments are a command's, with its positional arguments and after them options of that command, which
--- exclude none of each other
+-- the arguments are a command's, with its positional arguments and after them options of that command, no two of which
+-- exclude each other
 pub record IsCommand (arguments : List (List ℕ)) (name : CommandName) (positional : List (List ℕ))
     (settings : List Setting) : Type 0 where
   pub arguments_are : arguments ≡ command_name name ∷ (positional ++ setting_arguments settings)
@@ -48,8 +48,8 @@ pub record TimeChoices : Type 0 where
   pub show : TimeShow
   pub input : Option (List ℕ)
 
--- what arguments ask: a command, the files that they name, and what the options say; `every` is after how many retired
--- instructions it is said each time how far the run has come
+-- what arguments ask for: a command, the files that they name, and what the options say; `every` is the number of
+-- retired instructions after which the report says each time how far the run has come
 pub data Asked : Type 0 where
   machine : (program : List ℕ) (limit : ℕ) (retired : Bool) (mul : Bool) (every : Option ℕ) → Asked
   run : NamedLayout → (program : List ℕ) → Schedule → (limit : ℕ) → Reporting → Asked
@@ -72,17 +72,17 @@ pub data Asked : Type 0 where
 abbrev pub limit_of : Given → ℕ
 limit_of given = unwrap_or given.limit default_limit
 
--- what is shown of a run: the report alone where nothing is given
+-- what is shown of a run: the report alone if nothing is given
 abbrev pub run_show_of : Option Shown → Show
 run_show_of (Some shown.Retired) = shows.Retired
 run_show_of (Some shown.Moves) = shows.Moves
 run_show_of _ = shows.Report
 
--- what a run writes to the report before the lines that close it
+-- what a run writes to the report before its closing lines
 abbrev pub reporting_of : Given → Reporting
 reporting_of given = record { show = run_show_of given.show; every = given.every }
 
--- what is shown of the run of a layout whose time is compared
+-- what is shown of the run of a layout when times are compared
 abbrev pub time_show_of : Option Shown → TimeShow
 time_show_of (Some shown.Sites) = time_shows.Sites
 time_show_of (Some shown.Moves) = time_shows.Moves
@@ -93,11 +93,11 @@ abbrev pub shows_edges : Option Shown → Bool
 shows_edges (Some shown.Edges) = true
 shows_edges _ = false
 
--- the guess rule, which keeps every guess where none is given
+-- the guess rule, which keeps every guess if none is given
 abbrev pub guess_rule_of : Given → GuessRule
 guess_rule_of given = unwrap_or given.guess rules.Any
 
--- the schedule by what is given of a script and of a seed: the fixed rule where neither is given
+-- the schedule, by the script and the seed that may be given: the fixed rule if neither is
 abbrev pub schedule_by : GuessRule → Option (List ℕ) → Option ℕ → Schedule
 schedule_by rule (Some file) seed = by_script file
 schedule_by rule None (Some seed) = by_seed seed rule
@@ -129,7 +129,7 @@ abbrev pub is_retired : Show → Bool
 is_retired shows.Retired = true
 is_retired _ = false
 
--- what a command asks with its positional arguments and what its options give; nothing where an argument is missing, which for
+-- what a command asks for with its positional arguments and its options; nothing if an argument is missing, which for
 -- `moves` may be the script
 abbrev pub asked_by : CommandName → List (List ℕ) → Given → Option Asked
 asked_by names.Machine (program ∷ []) given =
@@ -159,7 +159,7 @@ asked_by names.Version [] given = Some version
 asked_by names.VersionLetter [] given = Some version
 asked_by _ _ _ = None
 
--- the arguments are accepted, and ask this
+-- the arguments are accepted, and ask for this
 pub record Asks (arguments : List (List ℕ)) (asked : Asked) : Type 0 where
   pub name : CommandName
   pub positional : List (List ℕ)
@@ -167,11 +167,11 @@ pub record Asks (arguments : List (List ℕ)) (asked : Asked) : Type 0 where
   pub command : IsCommand arguments name positional settings
   pub means : asked_by name positional (given_in settings) ≡ Some asked
 
--- an amount after which it is said each time how far a run has come
+-- an amount after which the report says each time how far a run has come
 abbrev pub IsStep : ℕ → Type 0
 IsStep every = (1 ≤ every) × (every ≤ most_limit)
 
--- numbers that are asked for are within their bounds
+-- the requested numbers are within their bounds
 abbrev pub IsBounded : Asked → Type 0
 IsBounded (machine program limit retired mul every) = (limit ≤ most_limit) × IfSome every IsStep
 IsBounded (run layout program schedule limit reporting) = (limit ≤ most_limit) × IfSome reporting.every IsStep
@@ -185,8 +185,8 @@ IsBounded (time delays program layouts options) =
 IsBounded (gen number runs) = (1 ≤ number) × (number ≤ most_statements)
 IsBounded _ = Unit {0}
 
--- the arguments before this index begin those of some command; with the argument at it, or with none there, they begin
--- those of no command
+-- the arguments before this index begin those of some command; together with the argument at the index, or if there is
+-- none there, they are not the beginning of any command's
 pub record IsBadAt (arguments : List (List ℕ)) (index : ℕ) : Type 0 where
   pub within : index ≤ length arguments
   pub begun : (command : List (List ℕ)) × (asked : Asked) × Asks command asked

@@ -28,7 +28,7 @@ command_name names.HelpLetter = codes "-h"
 command_name names.Version = codes "--version"
 command_name names.VersionLetter = codes "-V"
 
--- how many positional arguments a command has at least
+-- the minimum number of positional arguments of a command
 abbrev pub fewest : CommandName → ℕ
 fewest names.Machine = 1
 fewest names.Run = 2
@@ -49,8 +49,8 @@ fewest names.HelpLetter = 0
 fewest names.Version = 0
 fewest names.VersionLetter = 0
 
--- and how many at most: `time` may have seven more layouts, `help` a command's name, and no other command may have more
--- arguments than it needs
+-- and the maximum: `time` may have seven more layouts, `help` a command's name, and no other command more arguments
+-- than it needs
 abbrev pub most : CommandName → ℕ
 most names.Time = 10
 most names.Machine = 1
@@ -98,7 +98,7 @@ name_in argument =
     else if is_text argument (codes "-V") then Some names.VersionLetter
     else None
 
--- whether there is help on a command: on all but those that are written as options
+-- whether there is help on a command: on all except those that are written as options
 abbrev pub has_help : CommandName → Bool
 has_help names.HelpOption = false
 has_help names.HelpLetter = false
@@ -115,7 +115,7 @@ helped (Some name) = if has_help name then Some name else None
 unfoldable pub topic_in : List ℕ → Option CommandName
 topic_in argument = helped (name_in argument)
 
--- what the positional arguments of a command are: names of files, numbers, or commands
+-- the kind of a command's positional arguments: names of files, numbers, or commands
 abbrev pub place_kind : CommandName → PlaceKind
 place_kind names.Gen = Numbers
 place_kind names.Help = Topics
@@ -127,6 +127,6 @@ is_of Files argument = is_file_name argument
 is_of Numbers argument = is_some (count_in argument)
 is_of Topics argument = is_some (topic_in argument)
 
--- an argument that may stand among the positional arguments of a command
+-- an argument that may be among the positional arguments of a command
 unfoldable pub is_positional : CommandName → List ℕ → Bool
 is_positional name argument = is_of (place_kind name) argument

@@ -59,7 +59,7 @@ option_name keys.Without = codes "--without"
 option_name keys.Mul = codes "--mul"
 option_name keys.Run = codes "--run"
 
--- the value for what is shown
+-- the value of `--show`, by what it shows
 abbrev pub shown_name : Shown → List ℕ
 shown_name shows.Report = codes "report"
 shown_name shows.Retired = codes "retired"
@@ -75,7 +75,7 @@ guess_name rules.Taken = codes "taken"
 guess_name rules.Backward = codes "backward"
 guess_name rules.Wait = codes "wait"
 
--- the value is one argument after it; `--mul` and `--run` have none
+-- the value of an option is the argument after it; `--mul` and `--run` have none
 abbrev pub value_arguments : Setting → List (List ℕ)
 value_arguments (limit_to amount) = amount ∷ []
 value_arguments (say_every amount) = amount ∷ []
@@ -126,8 +126,7 @@ takes_key names.Time keys.Input = true
 takes_key names.Gen keys.Run = true
 takes_key _ _ = false
 
--- what each command can show: only a run of the processor has moves, only a time is made of parts, and only a search has
--- edges
+-- what each command can show: only a run of the processor has moves, only a time has parts, and only a search has edges
 abbrev pub can_show : CommandName → Shown → Bool
 can_show names.Run shows.Report = true
 can_show names.Run shows.Retired = true
@@ -139,22 +138,22 @@ can_show names.Time shows.Moves = true
 can_show names.Orders shows.Edges = true
 can_show _ _ = false
 
--- the limit where none is given
+-- the default limit
 abbrev pub default_limit : ℕ
 default_limit = 10000000
 
--- how many issues and states a search has at most where no numbers are given
+-- the default maximum of issues and of states of a search
 abbrev pub default_issues : ℕ
 default_issues = 3
 
 abbrev pub default_states : ℕ
 default_states = 1000000
 
--- the greatest seed
+-- the largest seed
 abbrev pub most_seed : ℕ
 most_seed = 4294967295
 
--- the greatest limit of each command
+-- the maximum limit of each command
 abbrev pub most_limit_of : CommandName → ℕ
 most_limit_of names.Time = most_timed_limit
 most_limit_of _ = most_limit
@@ -208,8 +207,8 @@ abbrev pub NoneTwice : List Setting → Type 0
 NoneTwice [] = Unit {0}
 NoneTwice (setting ∷ settings) = Without (setting_key setting) settings × NoneTwice settings
 
--- what chooses the moves of a run: the script in a file, a seed from which they are drawn, or the fixed rule; the latter
--- two of the moves that a guess rule keeps
+-- what chooses the moves of a run: the script in a file, a seed from which they are drawn, or the fixed rule; with the
+-- latter two, only moves that a guess rule keeps
 pub data Schedule : Type 0 where
   by_script : (file : List ℕ) → Schedule
   by_seed : (seed : ℕ) → GuessRule → Schedule
@@ -221,7 +220,7 @@ limit_in [] = None
 limit_in (limit_to amount ∷ settings) = Some (amount_of amount)
 limit_in (_ ∷ settings) = limit_in settings
 
--- after how many retired instructions it is said each time how far the run has come
+-- the number of retired instructions after which the report says each time how far the run has come
 abbrev pub every_in : List Setting → Option ℕ
 every_in [] = None
 every_in (say_every amount ∷ settings) = Some (amount_of amount)
@@ -257,13 +256,13 @@ input_in [] = None
 input_in (input_from file ∷ settings) = Some file
 input_in (_ ∷ settings) = input_in settings
 
--- how many issues a search makes at most
+-- the maximum number of issues of a search
 abbrev pub issues_in : List Setting → Option ℕ
 issues_in [] = None
 issues_in (issue_at_most digits ∷ settings) = Some (digits_value 10 digits)
 issues_in (_ ∷ settings) = issues_in settings
 
--- how many states it reaches at most
+-- the maximum number of states that it reaches
 abbrev pub states_in : List Setting → Option ℕ
 states_in [] = None
 states_in (reach_at_most digits ∷ settings) = Some (digits_value 10 digits)

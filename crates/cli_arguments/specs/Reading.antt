@@ -1,4 +1,4 @@
--- How the arguments of the command line are read one by one: what is known after each of them, and which arguments may follow.
+-- How the arguments of the command line are read one by one: what is known after each, and which arguments may follow.
 use Rattle.std.specs.Prelude.{ℕ, ◌+◌, List, codes, take, drop, nat_le, nat_lt, Bool, true, false, not, ◌&&◌, ◌||◌, Option, Some, None, option_map, if◌then◌else◌}
 use Rattle.run_options.specs.Limits.{most_issues, most_limit, most_states}
 use Rattle.run_options.specs.declared.guess_rule.GuessRule.{GuessRule}
@@ -32,7 +32,7 @@ key_in argument =
     else if is_text argument (codes "--run") then Some keys.Run
     else None
 
--- what an argument asks to be shown
+-- what is to be shown, by an argument
 unfoldable pub shown_in : List ℕ → Option Shown
 shown_in argument =
     if is_text argument (codes "report") then Some shows.Report
@@ -89,8 +89,8 @@ has_key given keys.Without = is_there given.without
 has_key given keys.Mul = given.mul
 has_key given keys.Run = given.run
 
--- what is known after the arguments that were read: nothing yet, a command with that many positional arguments, options after
--- them, or an option whose value comes next
+-- what is known after the arguments that were read: nothing yet, a command with that many positional arguments, options
+-- after these, or an option whose value comes next
 pub data ReadingState : Type 0 where
   start : ReadingState
   placed : Subject → ReadingState
@@ -120,17 +120,17 @@ after_key subject given keys.Mul = options subject (record given { mul = true })
 after_key subject given keys.Run = options subject (record given { run = true })
 after_key subject given key = valued subject given key
 
--- the same, where the command has the option and none that excludes it has been given
+-- the same, if the command has the option and no option that excludes it has been given
 abbrev pub after_option : Subject → Given → Option Key → Option ReadingState
 after_option subject given None = None
 after_option subject given (Some key) =
     when (takes_key subject.name key && not (has_key given key)) (after_key subject given key)
 
--- whether one more positional argument may stand there, and this is one
+-- whether one more positional argument may follow, and this is one
 abbrev pub has_place : Subject → List ℕ → Bool
 has_place subject argument = nat_lt subject.count (most subject.name) && is_positional subject.name argument
 
--- after one more positional argument, or after the first option's own name where there are enough of them
+-- after one more positional argument, or after the first option's own name if there are enough of them
 abbrev pub after_place : Subject → List ℕ → Option ReadingState
 after_place subject argument =
     if has_place subject argument then Some (placed (one_place_more subject))
@@ -168,7 +168,7 @@ abbrev pub after_value : Subject → Option Given → Option ReadingState
 after_value subject None = None
 after_value subject (Some given) = Some (options subject given)
 
--- what is known after one more argument, which has no place where there is no answer
+-- what is known after one more argument; none if the argument is unexpected
 unfoldable pub follow : ReadingState → List ℕ → Option ReadingState
 follow start argument = after_name (name_in argument)
 follow (placed subject) argument = after_place subject argument
@@ -179,7 +179,7 @@ follow (valued subject given key) argument = after_value subject (given_with_val
 abbrev pub positional_in : ℕ → List (List ℕ) → List (List ℕ)
 positional_in count arguments = take count (drop 1 arguments)
 
--- what is asked where no argument is left, or nothing where one is missing
+-- what is asked for if no argument is left; none if one is missing
 unfoldable pub completed : List (List ℕ) → ReadingState → Option Asked
 completed arguments start = None
 completed arguments (placed subject) = asked_by subject.name (positional_in subject.count arguments) nothing_given

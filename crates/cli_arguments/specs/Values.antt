@@ -1,4 +1,4 @@
--- Words of the project's command line that name a file or write a number.
+-- Arguments of the project's command line that name a file or write a number.
 use Rattle.std.specs.Prelude.{ℕ, ◌*◌, ◌-◌, List, [], ◌∷◌, codes, length, take, nat_eq, nat_le, Bool, false, not, ◌&&◌, Option, Some, None, if◌then◌else◌}
 use Rattle.std.specs.List.{starts_with, ends_with, list_all}
 use Rattle.std.specs.Str.Parse.{digits_value}
@@ -10,15 +10,15 @@ abbrev pub is_file_name : List ℕ → Bool
 is_file_name [] = false
 is_file_name (byte ∷ bytes) = not (starts_with nat_eq (byte ∷ bytes) (codes "--"))
 
--- decimal digits, at least one and at most this many, the first of which may be zeros
+-- decimal digits, at least one and at most this many; the leading ones may be zeros
 abbrev pub is_decimal_argument : ℕ → List ℕ → Bool
 is_decimal_argument longest argument = nat_le 1 (length argument) && nat_le (length argument) longest && list_all is_digit argument
 
--- 1 to 10 digits, with a value that is at most this
+-- 1 to 10 digits, whose value is at most this
 abbrev pub is_number_argument : ℕ → List ℕ → Bool
 is_number_argument most argument = is_decimal_argument 10 argument && nat_le (digits_value 10 argument) most
 
--- the same, with a value that is not 0
+-- the same, and the value is not 0
 abbrev pub is_positive : ℕ → List ℕ → Bool
 is_positive most argument = is_number_argument most argument && nat_le 1 (digits_value 10 argument)
 
@@ -26,11 +26,11 @@ is_positive most argument = is_number_argument most argument && nat_le 1 (digits
 unfoldable pub numeral_in : ℕ → List ℕ → Option ℕ
 numeral_in longest argument = if is_decimal_argument longest argument then Some (digits_value 10 argument) else None
 
--- the number that an argument writes, which is at most the given one
+-- the number that an argument writes, if it is at most the given one
 unfoldable pub number_up_to : ℕ → List ℕ → Option ℕ
 number_up_to most argument = if is_number_argument most argument then Some (digits_value 10 argument) else None
 
--- the same, which is not 0
+-- the same, if it is not 0
 unfoldable pub positive_in : ℕ → List ℕ → Option ℕ
 positive_in most argument = if is_positive most argument then Some (digits_value 10 argument) else None
 
@@ -38,13 +38,12 @@ positive_in most argument = if is_positive most argument then Some (digits_value
 abbrev pub count_in : List ℕ → Option ℕ
 count_in argument = positive_in most_statements argument
 
--- an argument without this last letter, where it ends with it
+-- an argument without this last letter, if it ends with it
 unfoldable pub before_letter : (letter : ℕ) → List ℕ → Option (List ℕ)
 before_letter letter argument =
     if ends_with nat_eq argument (letter ∷ []) then Some (take (length argument - 1) argument) else None
 
--- what an argument counts in, by the letter that it ends with: thousands, millions or thousand millions, and ones without such
--- a letter
+-- the unit of an argument, by its last letter: a thousand, a million or a thousand million; one without such a letter
 unfoldable pub unit_of : List ℕ → ℕ
 unit_of argument =
     if ends_with nat_eq argument (codes "k") then 1000
@@ -56,7 +55,7 @@ unit_of argument =
 unfoldable pub digits_in : List ℕ → List ℕ
 digits_in argument = if nat_eq (unit_of argument) 1 then argument else take (length argument - 1) argument
 
--- the greatest amount without a letter
+-- the maximum amount without a letter
 abbrev pub most_plain : ℕ
 most_plain = 1000000000
 

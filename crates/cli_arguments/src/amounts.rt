@@ -1,4 +1,4 @@
-//! Amounts of retired instructions on the command line: numbers, or few digits with a letter for what they count in.
+//! Amounts of retired instructions on the command line: numbers, or few digits with a letter for the unit.
 #![tactic(auto)]
 
 ghost use Rattle.std.specs.Prelude.{◌≡◌, ◌<◌, ◌≤◌, IfSome, option_map};
@@ -6,10 +6,10 @@ ghost use Rattle.cli_arguments.specs.Values.{amount_in, before_letter, bounded a
 
 use crate::numbers::{read_number, read_numeral};
 
-/// The greatest amount that is written without a letter.
+/// The maximum amount that is written without a letter.
 const MOST_PLAIN: u64 = 1_000_000_000;
 
-/// The most digits before a letter.
+/// The maximum number of digits before a letter.
 const MOST_DIGITS: usize = 4;
 
 /// An amount as it is written.
@@ -17,11 +17,11 @@ const MOST_DIGITS: usize = 4;
 struct Written<'a> {
     /// Its digits.
     digits: &'a str,
-    /// What they count in.
+    /// Their unit.
     unit: u64,
 }
 
-/// The argument without this last letter, where it ends with it.
+/// The argument without this last letter, if it ends with it.
 #[tactic(auto, using(crate::proofs::Letters::letters))]
 fn before(argument: &str, letter: char) -> Option<&str>
     requires { letter < 128 }
@@ -30,7 +30,7 @@ fn before(argument: &str, letter: char) -> Option<&str>
     argument.strip_suffix(letter)
 }
 
-/// The digits of an argument, and what they count in by its last letter.
+/// The digits of an argument, and their unit by its last letter.
 #[tactic(auto, unfolding(crate::specs::Values::before_letter, crate::specs::Values::digits_in, crate::specs::Values::unit_of))]
 fn split(argument: &str) -> Written<'_>
     ensures digits { result.digits.now ≡ digits_in argument.now }
@@ -62,7 +62,7 @@ fn split(argument: &str) -> Written<'_>
 }
 
 impl Written<'_> {
-    /// The number that its digits write, where they are not too many.
+    /// The number that its digits write, if they are not too many.
     #[tactic(auto, unfolding(crate::specs::Values::number_before))]
     fn number(&self) -> Option<u64>
         ensures number { result ≡ number_before self.now.unit self.now.digits.now }
@@ -76,7 +76,7 @@ impl Written<'_> {
     }
 }
 
-/// The amount, where it is within these bounds.
+/// The amount, if it is within these bounds.
 #[tactic(auto, unfolding(crate::specs::Values::bounded))]
 fn bounded(amount: u64, least: u64, most: u64) -> Option<u64>
     ensures amount { result ≡ is_bounded least most amount }
@@ -85,7 +85,7 @@ fn bounded(amount: u64, least: u64, most: u64) -> Option<u64>
     (least <= amount && amount <= most).then_some(amount)
 }
 
-/// The amount that an argument writes within these bounds.
+/// The amount that an argument writes, if it is within these bounds.
 pub(crate) fn read_amount(argument: &str, least: u64, most: u64) -> Option<u64>
     ensures amount { result ≡ amount_in least most argument.now }
     ensures within { IfSome result (λ amount. amount ≤ most) }

@@ -1,4 +1,4 @@
-//! What the arguments of the command line ask.
+//! What the arguments of the command line ask for.
 #![tactic(auto, unfolding(crate::specs::Reading::completed))]
 
 ghost use Rattle.std.specs.Prelude.{◌≡◌, ◌≤◌, [], ◌∷◌, IfOk, MatchResult, drop, length, map, string_bytes, option_map, take};
@@ -15,25 +15,25 @@ use crate::shown::{lines_of, shows_edges, time_show_of};
 use order_rules::Rule;
 use run_options::{GuessRule, Reporting, Show, TimeShow};
 
-/// The limit where `--limit` is not given.
+/// The default limit.
 pub const DEFAULT_LIMIT: u64 = 10_000_000;
 
-/// How many issues a search makes at most where `--issues` is not given.
+/// The default of `--issues`: the maximum number of issues of a search.
 pub const DEFAULT_ISSUES: u32 = 3;
 
-/// How many states a search reaches at most where `--states` is not given.
+/// The default of `--states`: the maximum number of states that a search reaches.
 pub const DEFAULT_STATES: u32 = 1_000_000;
 
 /// The options of `machine`.
 #[derive(Clone, Copy)]
 pub struct MachineOptions {
-    /// How many instructions are retired at most.
+    /// The maximum number of retired instructions.
     pub limit: u64,
     /// Whether each retired instruction has a line.
     pub show_retired: bool,
     /// Whether multiplication and division are among the instructions.
     pub mul: bool,
-    /// After how many retired instructions it is said each time how far the run has come.
+    /// The number of retired instructions after which the report says each time how far the run has come.
     pub every: Option<u64>,
 }
 
@@ -42,7 +42,7 @@ pub struct MachineOptions {
 pub struct RunOptions<'a> {
     /// What chooses the moves.
     pub schedule: Schedule<'a>,
-    /// How many instructions are retired at most.
+    /// The maximum number of retired instructions.
     pub limit: u64,
     /// What is written before the closing report.
     pub reporting: Reporting,
@@ -51,9 +51,9 @@ pub struct RunOptions<'a> {
 /// The options of `time`.
 #[derive(Clone, Copy)]
 pub struct TimeOptions<'a> {
-    /// How many instructions each run retires at most.
+    /// The maximum number of instructions that each run retires.
     pub limit: u64,
-    /// Which guesses each run makes.
+    /// The guess rule of each run.
     pub rule: GuessRule,
     /// The seed from which delays are drawn.
     pub seed: Option<u32>,
@@ -66,9 +66,9 @@ pub struct TimeOptions<'a> {
 /// The options of `orders`.
 #[derive(Clone, Copy)]
 pub struct OrdersOptions {
-    /// How many issues are made at most.
+    /// The maximum number of issues.
     pub issues: u32,
-    /// How many states are reached at most.
+    /// The maximum number of states that are reached.
     pub states: u32,
     /// The rule that is taken away.
     pub without: Option<Rule>,
@@ -145,7 +145,7 @@ pub enum Command<'a> {
         program: &'a str,
         trace: &'a str,
     },
-    /// Writes the layout's one text.
+    /// Writes the canonical form of the layout.
     Check {
         layout: LayoutArgument<'a>,
     },
@@ -274,7 +274,7 @@ fn time_options<'a>(options: Options<'a>) -> TimeOptions<'a>
     }
 }
 
-/// A command with two: a layout and a program.
+/// A command with two positional arguments: a layout and a program.
 fn with_two<'a>(
     name: CommandName,
     layout: &'a str,
@@ -343,7 +343,7 @@ fn with_two<'a>(
     }
 }
 
-/// A command with three or more.
+/// A command with three or more positional arguments.
 fn with_more<'a>(
     name: CommandName,
     first: &'a str,
@@ -371,7 +371,7 @@ fn with_more<'a>(
     }
 }
 
-/// A command with these positional arguments and options, or None where an argument is missing.
+/// A command with these positional arguments and options, or None if an argument is missing.
 fn with_arguments<'a>(
     name: CommandName,
     positional: &'a [String],
@@ -398,7 +398,7 @@ fn positional(arguments: &[String], count: usize) -> &[String]
     later.get(..count).unwrap_or(later)
 }
 
-/// What is asked where no argument is left, or None where one is missing.
+/// What is asked for if no argument is left, or None if one is missing.
 #[tactic(auto, using(crate::proofs::Completions::mapped), unfolding(crate::specs::Reading::completed))]
 fn complete<'a>(arguments: &'a [String], reading: ArgumentReading<'a>) -> Option<Command<'a>>
     ensures { option_map asked_of result ≡ completed (map string_bytes arguments.entry.now) (reading_state_of reading.entry) }
@@ -416,7 +416,8 @@ fn complete<'a>(arguments: &'a [String], reading: ArgumentReading<'a>) -> Option
     }
 }
 
-/// What the arguments ask, or the index of the first argument that has no place, which is their number where an argument is missing.
+/// What the arguments ask for, or the index of the first unexpected argument; the index is their number if an argument
+/// is missing.
 pub fn read_arguments(arguments: &[String]) -> Result<Command<'_>, u32>
     ensures answers { MatchResult result
         (λ command. Asks (map string_bytes arguments.now) (asked_of command))

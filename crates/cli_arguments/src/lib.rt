@@ -1,4 +1,4 @@
-//! The arguments of the command line: what they ask, or the first of them that has no place.
+//! The arguments of the command line: what they ask for, or the first unexpected one.
 #![tactic(auto)]
 
 mod amounts;

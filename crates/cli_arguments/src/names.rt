@@ -1,4 +1,4 @@
-//! The commands by their names, and which positional arguments they have.
+//! The commands by their names, and their positional arguments.
 #![tactic(auto, unfolding(crate::specs::Commands::is_positional, crate::specs::Commands::name_in, crate::specs::Commands::topic_in))]
 
 ghost use Rattle.std.specs.Prelude.{◌≡◌};
@@ -30,7 +30,7 @@ pub enum CommandName {
     VersionLetter,
 }
 
-/// What the positional arguments of a command are.
+/// The kind of a command's positional arguments.
 #[derive(Clone, Copy)]
 pub(crate) enum PlaceKind {
     /// Names of files.
@@ -69,7 +69,7 @@ impl CommandName {
         }
     }
 
-    /// How many positional arguments the command has at least.
+    /// The minimum number of positional arguments of the command.
     pub(crate) fn fewest(self) -> usize
         ensures { result ≡ fewest self }
     {
@@ -94,7 +94,7 @@ impl CommandName {
         }
     }
 
-    /// How many it has at most: `time` takes up to eight layouts, and `help` a command's name.
+    /// The maximum number: `time` takes up to eight layouts, and `help` a command's name.
     pub(crate) fn most(self) -> usize
         ensures { result ≡ most self }
     {
@@ -105,7 +105,7 @@ impl CommandName {
         }
     }
 
-    /// Whether there is help on it: on all but those that are written as options.
+    /// Whether there is help on the command: on all except those that are written as options.
     fn has_help(self) -> bool
         ensures { result ≡ has_help self }
     {
@@ -126,7 +126,7 @@ impl CommandName {
         name.has_help().then_some(name)
     }
 
-    /// What its positional arguments are.
+    /// The kind of its positional arguments.
     fn places(self) -> PlaceKind
         ensures { result ≡ place_kind self }
     {
@@ -137,7 +137,7 @@ impl CommandName {
         }
     }
 
-    /// Whether an argument may stand among its positional arguments.
+    /// Whether an argument may be among its positional arguments.
     pub(crate) fn is_positional(self, argument: &str) -> bool
         ensures { result ≡ is_positional self argument.now }
     {

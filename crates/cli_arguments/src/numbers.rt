@@ -9,7 +9,7 @@ ghost use Rattle.cli_arguments.specs.Values.{is_decimal_argument, count_in, numb
 /// The longest number: ten decimal digits.
 const MOST_DIGITS: usize = 10;
 
-/// The greatest number of statements of a drawn program.
+/// The maximum number of statements of a drawn program.
 const MOST_STATEMENTS: u64 = 30_000;
 
 fn has_only_digits(argument: &str) -> bool
@@ -37,7 +37,7 @@ pub(crate) fn read_numeral(argument: &str, longest: usize) -> Option<u64>
     argument.parse::<u64>().ok()
 }
 
-/// The number that an argument writes in 1 to 10 decimal digits, where it is at most `most`.
+/// The number that an argument writes in 1 to 10 decimal digits, if it is at most `most`.
 #[tactic(auto, unfolding(crate::specs::Values::number_up_to, crate::specs::Values::numeral_in))]
 pub(crate) fn read_number(argument: &str, most: u64) -> Option<u64>
     ensures number { result ≡ number_up_to most argument.now }
@@ -47,7 +47,7 @@ pub(crate) fn read_number(argument: &str, most: u64) -> Option<u64>
     (number <= most).then_some(number)
 }
 
-/// The same, where it is not 0.
+/// The same, if it is not 0.
 #[tactic(auto, unfolding(crate::specs::Values::positive_in, crate::specs::Values::number_up_to))]
 pub(crate) fn read_positive(argument: &str, most: u64) -> Option<u64>
     ensures number { result ≡ positive_in most argument.now }

@@ -15,19 +15,19 @@ use crate::shown::Shown;
 use order_rules::Rule;
 use run_options::GuessRule;
 
-/// The greatest number of retired instructions after `--limit` and `--every`.
+/// The maximum number of retired instructions after `--limit` and `--every`.
 const MOST_LIMIT: u64 = 1_000_000_000_000;
 
-/// The same after `--limit` where moves are timed.
+/// The same after `--limit` when moves are timed.
 const MOST_TIMED_LIMIT: u64 = 1_000_000_000;
 
-/// The greatest number after `--issues`.
+/// The maximum number after `--issues`.
 const MOST_ISSUES: u64 = 64;
 
-/// The greatest number after `--states`.
+/// The maximum number after `--states`.
 const MOST_STATES: u64 = 16_777_216;
 
-/// The greatest seed after `--seed`.
+/// The largest seed after `--seed`.
 const MOST_SEED: u64 = 0xFFFF_FFFF;
 
 /// What chooses the moves of a run.
@@ -35,9 +35,9 @@ const MOST_SEED: u64 = 0xFFFF_FFFF;
 pub enum Schedule<'a> {
     /// The script in a file of this name.
     Script(&'a str),
-    /// They are drawn from this seed, of those that the guess rule keeps.
+    /// They are drawn from this seed, among those that the guess rule keeps.
     Seed(u32, GuessRule),
-    /// The fixed rule, of those that the guess rule keeps.
+    /// The fixed rule, among those that the guess rule keeps.
     Rule(GuessRule),
 }
 
@@ -58,7 +58,7 @@ pub enum Key {
     Run,
 }
 
-/// What the options that were read give.
+/// The values of the options that were read.
 #[derive(Clone, Copy)]
 pub(crate) struct Options<'a> {
     pub(crate) limit: Option<u64>,
@@ -131,7 +131,7 @@ fn rule_of(argument: &str) -> Option<GuessRule>
     }
 }
 
-/// The greatest number of retired instructions after `--limit` of a command.
+/// The maximum number of retired instructions after `--limit` of a command.
 fn most_limit(name: CommandName) -> u64
     ensures { result ≡ most_limit_of name }
 {
@@ -162,8 +162,8 @@ impl<'a> Options<'a> {
         }
     }
 
-    /// Whether an option that excludes this one has been given: the same one, or of a script and a seed, or of a script and a guess
-    /// rule, the other.
+    /// Whether an option that excludes this one has been given: the same one; or a script, for a seed or a guess rule;
+    /// or one of these, for a script.
     pub(crate) fn has(&self, key: Key) -> bool
         ensures { result ≡ has_key (given_of self.now) key }
     {
@@ -197,7 +197,7 @@ impl<'a> Options<'a> {
         }
     }
 
-    /// The options with a value of `--show`, where the command can show it.
+    /// The options with a value of `--show`, if the command can show it.
     fn with_shown(self, name: CommandName, argument: &str) -> Option<Self>
         ensures { option_map given_of result ≡ given_with_value name (given_of self.entry) keys.Show argument.now }
     {
@@ -252,7 +252,7 @@ impl<'a> Options<'a> {
         })
     }
 
-    /// The options with how many issues a search makes at most.
+    /// The options with the maximum number of issues of a search.
     fn with_issues(self, name: CommandName, argument: &str) -> Option<Self>
         ensures { option_map given_of result ≡ given_with_value name (given_of self.entry) keys.Issues argument.now }
     {
@@ -263,7 +263,7 @@ impl<'a> Options<'a> {
         })
     }
 
-    /// The options with how many states it reaches at most.
+    /// The options with the maximum number of states that it reaches.
     fn with_states(self, name: CommandName, argument: &str) -> Option<Self>
         ensures { option_map given_of result ≡ given_with_value name (given_of self.entry) keys.States argument.now }
     {
@@ -285,7 +285,7 @@ impl<'a> Options<'a> {
         })
     }
 
-    /// The options with the value of one more, where the command allows it.
+    /// The options with the value of one more, if the command allows it.
     pub(crate) fn with_value(self, name: CommandName, key: Key, argument: &'a str) -> Option<Self>
         ensures { option_map given_of result ≡ given_with_value name (given_of self.entry) key argument.entry.now }
     {

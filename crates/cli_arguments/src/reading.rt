@@ -20,7 +20,7 @@ pub(crate) struct Subject {
 pub(crate) enum ArgumentReading<'a> {
     /// No argument yet.
     Start,
-    /// The command and the positional arguments that stood there.
+    /// The command and its positional arguments so far.
     Placed(Subject),
     /// All positional arguments, and some options.
     Options(Subject, Options<'a>),
@@ -29,7 +29,7 @@ pub(crate) enum ArgumentReading<'a> {
 }
 
 impl Subject {
-    /// Whether one more positional argument may stand there, and this is one.
+    /// Whether one more positional argument may follow, and this is one.
     fn has_place(&self, argument: &str) -> bool
         ensures { result ≡ has_place self.now argument.now }
     {
@@ -88,7 +88,7 @@ fn after_subject<'a>(
     }
 }
 
-/// What is known after one more positional argument, or after the first option's own name.
+/// What is known after one more positional argument, or after the first option's own name if there are enough of them.
 fn after_place<'a>(subject: Subject, argument: &'a str) -> Option<ArgumentReading<'a>>
     ensures { option_map reading_state_of result ≡ after_place subject argument.entry.now }
 {
@@ -102,7 +102,7 @@ fn after_place<'a>(subject: Subject, argument: &'a str) -> Option<ArgumentReadin
 }
 
 impl<'a> ArgumentReading<'a> {
-    /// What is known after one more argument, or None where that argument has no place.
+    /// What is known after one more argument, or None if that argument is unexpected.
     pub(crate) fn follow(self, argument: &'a str) -> Option<Self>
         ensures { option_map reading_state_of result ≡ follow (reading_state_of self.entry) argument.entry.now }
     {

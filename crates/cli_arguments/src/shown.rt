@@ -1,4 +1,4 @@
-//! What can be asked to be shown.
+//! What can be shown.
 #![tactic(auto, unfolding(crate::specs::Reading::shown_in))]
 
 ghost use Rattle.std.specs.Prelude.{◌≡◌};
@@ -9,7 +9,7 @@ ghost use Rattle.cli_arguments.specs.Arguments.{run_show_of, shows_edges, time_s
 use crate::names::CommandName;
 use run_options::{Show, TimeShow};
 
-/// The values of `--show`, of whatever command.
+/// The values of `--show`, for any command.
 #[derive(Clone, Copy)]
 pub(crate) enum Shown {
     /// The closing report alone.

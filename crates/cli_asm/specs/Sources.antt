@@ -1,4 +1,4 @@
--- What the command `asm` answers, and what it leaves of the outside.
+-- The answer of the command `asm`, and its effect on the outside.
 use Rattle.std.specs.Prelude.{◌≡◌, ◌≢◌, ◌⊎◌, ℕ, List, codes, Option, Err}
 use Rattle.rv_asm.specs.declared.object.Object.{Object}
 use Rattle.rv_asm.specs.declared.refusal.AsmErr.{AsmErr}
@@ -14,18 +14,18 @@ use Rattle.cli_files.specs.declared.status.Status.{Status}
 use Rattle.cli_files.specs.declared.status.Status.TheVariants as status
 use Rattle.cli_files.specs.declared.status.Which.TheVariants as which
 
--- the greatest length that is read of a source: one byte more than a source may have
+-- the maximum length that is read of a source: one byte more than a source may have
 abbrev pub most_source : ℕ
 most_source = 1048577
 
--- the file is that of the object that the source stands for, and is seen as that object
+-- the file is that of the object that the source describes, and is seen as that object
 pub record IsAssembly (source file : List ℕ) : Type 0 where
   pub object : Object
   pub stands : Objects object (assembled source)
   pub file_is : file ≡ elf_file object
   pub view : IsView object file
 
--- the source is assembled to no file: the status and the report say why; or memory was refused
+-- no file comes from the source: the status and the report say why; or memory was refused
 abbrev pub IsUnassembled : List ℕ → Status → List ℕ → Type 0
 IsUnassembled source answer report =
     ((error : AsmErr) × (assembled source ≡ Err error) × (answer ≡ status.BadSource error)
@@ -38,7 +38,7 @@ Refused error answer report =
     ((error.kind ≢ AsmKind.NoMemory) × (answer ≡ status.BadSource error) × (report ≡ bad_source error))
     ⊎ SaysNoMemory answer report
 
--- the file of the source was put to the output, or the output failed while it was put
+-- the file of the source was written to the output, or the output failed while it was written
 pub record PutsAssembly (source : List ℕ) (before after : Option (List ℕ)) (answer : Status)
     (report : List ℕ) : Type 0 where
   pub file : List ℕ

@@ -12,7 +12,7 @@ use std::alloc::Global;
 /// How much is read of a source: one byte more than it may have.
 const MOST_SOURCE: u64 = 1_048_577;
 
-/// Assembles a source that was read, and puts the file.
+/// Assembles a source that was read, and writes the file.
 fn assemble_source<K: Sink>(alloc: Global, source: &[u8], output: &mut K) -> Answer
     ensures { AnswersByOutput (AssemblesSource source.now) K.Sink output.old output.new result }
 {
@@ -22,7 +22,7 @@ fn assemble_source<K: Sink>(alloc: Global, source: &[u8], output: &mut K) -> Ans
     }
 }
 
-/// Carries out `asm`: reads the source, and puts the file into which it is assembled to the output.
+/// Carries out `asm`: reads the source, assembles it, and writes the file to the output.
 pub fn assemble_program<F: Files, K: Sink>(
     alloc: Global,
     source: &str,

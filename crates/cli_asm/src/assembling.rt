@@ -17,7 +17,7 @@ fn lacks_memory(error: AsmErr) -> bool
     matches!(error.kind, AsmKind::NoMemory)
 }
 
-/// The answer where a source is refused, or memory for it.
+/// The answer if a source is refused, or memory for it.
 fn refusal(error: AsmErr) -> Answer
     ensures { Refused error result.status result.closing }
 {
@@ -30,7 +30,7 @@ fn refusal(error: AsmErr) -> Answer
     }
 }
 
-/// The file of the program that a source stands for, or the answer where it stands for no program.
+/// The file of the program that a source describes, or the answer if it describes none.
 pub fn file_of(alloc: Global, source: &[u8]) -> Result<Vec<u8>, Answer>
     ensures ok { IfOk result (λ file. IsAssembly source.now file.items) }
     ensures err { IfErr result (λ answer. IsUnassembled source.now answer.status answer.closing) }

@@ -69,7 +69,7 @@ comes core new plan hart text before after a answer report is audits agrees mach
       accepts = accepts plan hart new text before a all;
     })
 
--- where memory for the processor is refused nothing was found
+-- if memory for the processor is refused, nothing was found
 none_found : (plan : Plan) (hart : Hart) (new : Processor) (text : List ℕ) (told : Option (List ℕ)) →
     AcceptsRuns plan hart new text told status.NoMemory (line (codes "no memory"))
 none_found plan hart new text None = (λ k. [], tt, λ n last is. tt)
@@ -80,7 +80,7 @@ pub comes-no-memory : (plan : Plan) (hart : Hart) (text : List ℕ) (told : Opti
 comes-no-memory plan hart text told answer report is says =
     rw (is, says) (record { new = opened_processor plan hart; answers = (refl, refl); accepts = none_found plan hart (opened_processor plan hart) text told })
 
--- what was found says of no file that it failed, nor of the output, and of the input exactly where the call did
+-- the findings do not say that a file or the output failed; they say that the input failed exactly if the call did
 pub files-left : (a : Audit) → files_answered (audit_status a) ≡ Ok tt
 files-left (found.Agrees n) = refl
 files-left (found.Wrong number kind) = refl

@@ -1,4 +1,4 @@
--- What the command `audit` answers, and what it leaves of the outside.
+-- The answer of the command `audit`, and its effect on the outside.
 use Rattle.std.specs.Prelude.{◌≡◌, ◌⊎◌, ℕ, List, codes, Option, Some, None}
 use Rattle.cf_io.specs.Reads.{FilesSeen}
 use Rattle.rv_machine.specs.Hart.{Hart}
@@ -49,9 +49,10 @@ audit_report found.ReadFault = line (codes "read fault input")
 abbrev pub HasComeTo : Plan → Hart → (new : Processor) → Moment → Type 0
 HasComeTo plan hart new m = new ≡ in_state (opened_processor plan hart) m.state
 
--- the text is the trace of a run of n moves of the layout's processor, opened on the hart, which it leaves as it is now; the
--- run leaves this of the input; it is one of the sequential machine that starts on the hart, at each of its moments, and the
--- lines of retirement in the trace are the machine's: a line for each of its first instructions, in their order
+-- the text is the trace of a run of n moves of the layout's processor, opened on the hart, and the run leads to the
+-- processor as it is now. The run leaves this of the input. It is a run of the sequential machine that starts on the
+-- hart, at each of its moments, and the retirement lines in the trace are the machine's: one for each of its first
+-- instructions, in order
 pub record IsTraceOf (plan : Plan) (hart : Hart) (new : Processor) (text : List ℕ) (before after : Option (List ℕ)) (n : ℕ) :
     Type 0 where
   pub last : Moment
@@ -60,8 +61,8 @@ pub record IsTraceOf (plan : Plan) (hart : Hart) (new : Processor) (text : List 
   pub input : Becomes before after last.rest
   pub machine : TracesMachine (opened_processor plan hart) hart before text n last is
 
--- the text is the trace of no run, which is seen in this line, for this reason; the moves that were made leave the processor
--- as it is now, and this of the input
+-- the text is the trace of no run, which this line shows, for this reason; the moves that were made lead to the
+-- processor as it is now, and leave this of the input
 pub record IsNoTraceOf (plan : Plan) (hart : Hart) (new : Processor) (text : List ℕ) (before after : Option (List ℕ)) (number : ℕ)
     (kind : TraceKind) : Type 0 where
   pub stop : Moment
@@ -69,8 +70,8 @@ pub record IsNoTraceOf (plan : Plan) (hart : Hart) (new : Processor) (text : Lis
   pub reached : HasComeTo plan hart new stop
   pub input : Becomes before after stop.rest
 
--- what is answered of a text, by the status: it is the trace of a run; or it is not, which is seen in this line; or the
--- input failed the call that it names after the trace of a run; or memory for the processor was refused
+-- the answer for a text, by the status: it is the trace of a run; or it is not, which this line shows; or it is the
+-- trace of a run up to a call that the input failed; or memory for the processor was refused
 abbrev pub AnswersText : Plan → Hart → (new : Processor) → List ℕ → (before after : Option (List ℕ)) → Status → List ℕ → Type 0
 AnswersText plan hart new text before after status.Done report =
     (n : ℕ) × IsTraceOf plan hart new text before after n × (report ≡ trace_of n)
@@ -88,8 +89,8 @@ AcceptsTrace n status.Done report = report ≡ trace_of n
 AcceptsTrace n (status.BadTrace why) report = ⊥
 AcceptsTrace n _ report = Unit {0}
 
--- this is what the moves of the audit found of an input that tells nothing of what it has left, where one took place: with
--- it they lead to the processor as it is now
+-- the findings are what the moves of the audit found of an input that does not expose its remaining bytes, if there was
+-- an audit: with these findings the moves lead to the processor as it is now
 abbrev pub IsWhatWasFound : Findings → Plan → Hart → (new : Processor) → List ℕ → Status → List ℕ → Type 0
 IsWhatWasFound found plan hart new text status.Done report =
     (n : ℕ) × (last : Moment) × IsTraceFinding found (opened_processor plan hart) text n last × HasComeTo plan hart new last × (report ≡ trace_of n)
@@ -97,8 +98,8 @@ IsWhatWasFound found plan hart new text (status.BadTrace (fault.Line number kind
     (stop : Moment) × GoesWrongFinding found (opened_processor plan hart) text number kind stop × HasComeTo plan hart new stop
 IsWhatWasFound found plan hart new text _ report = Unit {0}
 
--- over an input that tells what it has left, each trace of a run is answered in this way; over another one each trace of a
--- run whose moves find the same of it as those of the audit
+-- over an input that exposes its remaining bytes, each trace of a run is answered in this way; over any other, each
+-- trace of a run whose moves find the same input as those of the audit
 abbrev pub AcceptsRuns : Plan → Hart → (new : Processor) → List ℕ → Option (List ℕ) → Status → List ℕ → Type 0
 AcceptsRuns plan hart new text None answer report =
     (found : Findings) × IsWhatWasFound found plan hart new text answer report
@@ -106,8 +107,8 @@ AcceptsRuns plan hart new text None answer report =
 AcceptsRuns plan hart new text (Some rest) answer report =
     (n : ℕ) (last : Moment) → IsTrace (opened_processor plan hart) (Some rest) text n last → AcceptsTrace n answer report
 
--- what comes of a layout, a hart and a text: the answer and what was found of the input are of one audit, which leaves this
--- processor
+-- the outcome for a layout, a hart and a text: the answer and what was found of the input belong to one audit, which
+-- leaves this processor
 pub record ComesOfTrace (plan : Plan) (hart : Hart) (text : List ℕ) (before after : Option (List ℕ))
     (answer : Status) (report : List ℕ) : Type 0 where
   pub new : Processor
@@ -121,7 +122,7 @@ pub record ReadsTrace (asked : AuditAsked) (before after : Option FilesSeen) (pl
   pub loaded : IsLoaded asked.layout asked.program before between plan hart
   pub traced : IsTraceAt asked.trace between after text
 
--- and this came of them
+-- and this was the outcome
 pub record AuditsTrace (asked : AuditAsked) (before after : InputSide) (answer : Status) (report : List ℕ) :
     Type 0 where
   pub plan : Plan
@@ -130,7 +131,7 @@ pub record AuditsTrace (asked : AuditAsked) (before after : InputSide) (answer :
   pub reads : ReadsTrace asked before.files after.files plan hart text
   pub comes : ComesOfTrace plan hart text before.input after.input answer report
 
--- the layout and the program are there, and the trace is not
+-- the layout and the program were found, and the trace was not
 pub record StopsAtTrace (asked : AuditAsked) (before after : Option FilesSeen) (answer : Status)
     (report : List ℕ) : Type 0 where
   pub plan : Plan
@@ -139,7 +140,7 @@ pub record StopsAtTrace (asked : AuditAsked) (before after : Option FilesSeen) (
   pub loaded : IsLoaded asked.layout asked.program before between plan hart
   pub lacks : LacksTrace asked.trace between after answer report
 
--- one of them is missing, and the input was left alone
+-- one of them is missing, and the input was left unchanged
 pub record RefusesAudit (asked : AuditAsked) (before after : InputSide) (answer : Status) (report : List ℕ) :
     Type 0 where
   pub lacks : LacksLoaded asked.layout asked.program before.files after.files answer report

@@ -1,4 +1,4 @@
--- The report of a trace that is one of a run (a format of this project).
+-- The report of a trace that is the trace of a run (a format of this project).
 use Rattle.std.specs.Prelude.{ℕ, List, ◌++◌, codes, decimal}
 use Rattle.texts.specs.Lines.{line}
 

@@ -9,12 +9,12 @@ use Rattle.report_refusals.specs.declared.faults.TraceFault.TheVariants as fault
 use Rattle.cli_files.specs.declared.status.Which.TheVariants as which
 use Rattle.report_refusals.specs.Traces.{bad_trace}
 
--- the file's first bytes, one more than a trace may have, are not too many, and are this text
+-- this text came from a read of up to one byte more than a trace may have, and is not too long
 pub record IsTraceAt (name : List ℕ) (before after : Option FilesSeen) (text : List ℕ) : Type 0 where
   pub front : IsFrontOf (most_trace + 1) before after name text
   pub fits : length text ≤ most_trace
 
--- they are too many
+-- the text is too long
 pub record TraceTooLong (name : List ℕ) (before after : Option FilesSeen) (answer : Status)
     (report : List ℕ) : Type 0 where
   pub text : List ℕ

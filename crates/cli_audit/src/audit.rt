@@ -50,11 +50,11 @@ fn audit_loaded<S: Source>(alloc: Global, loaded: Loaded, text: &[u8], input: &m
     }
 }
 
-/// Carries out `audit`: reads the layout, the program and the trace, in this order, makes the moves that the trace names, and
-/// compares all that `run` shows of them with it, byte by byte. `Done` comes exactly where the trace is the text of a run
-/// from the program's start, of as many moves as the answer says; so the lines of retired instructions in it are those of
-/// the sequential machine, whoever made the trace. `BadTrace` gives the first line in which it is not, and why. What the
-/// program writes goes nowhere.
+/// Carries out `audit`: reads the layout, the program and the trace, in this order, makes the moves that the trace
+/// names, and compares all that `run` shows of them with the trace, byte by byte. `Done` comes exactly if the trace is
+/// the text of a run from the program's start, with as many moves as the answer says; so its lines of retired
+/// instructions are those of the sequential machine, whoever made the trace. `BadTrace` gives the first line that
+/// differs, and why. What the program writes is discarded.
 pub fn audit_trace<F: Files, S: Source>(
     alloc: Global,
     layout: LayoutArgument<'_>,

@@ -1,4 +1,4 @@
-//! The report of a trace that is one of a run.
+//! The report of a trace that is the trace of a run.
 #![tactic(auto, unfolding(crate::specs::Reports::trace_of))]
 
 ghost use Rattle.std.specs.Prelude.{◌≡◌};

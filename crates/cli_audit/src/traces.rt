@@ -10,10 +10,10 @@ use cli_files::{Answer, Status, TraceFault, Which, no_memory, unread};
 use report_refusals::bad_trace;
 use std::alloc::Global;
 
-/// The greatest length of a trace, in bytes.
+/// The maximum length of a trace, in bytes.
 const MOST_BYTES: u64 = MOST_TRACE as u64;
 
-/// The text of the trace in the file of this name, or the answer where it gives none.
+/// The text of the trace in the file of this name, or the answer if it gives none.
 pub fn trace_at<F: Files>(alloc: Global, name: &str, files: &mut F) -> Result<Vec<u8>, Answer>
     ensures { ReadsFiles (λ before after text. IsTraceAt name.now before after (vec_items text)) (LacksTrace name.now) F.Files files.old files.new result }
 {

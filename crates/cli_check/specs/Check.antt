@@ -1,4 +1,4 @@
--- What the command `check` answers, and what it leaves of the outside.
+-- The answer of the command `check`, and its effect on the outside.
 use Rattle.std.specs.Prelude.{◌≡◌, ◌⊎◌, ℕ, List, [], codes, Option}
 use Rattle.cf_io.specs.Puts.{Writes, WritesFront}
 use Rattle.cf_layout.specs.Layout.{Plan}
@@ -10,7 +10,7 @@ use Rattle.cli_files.specs.Layouts.{IsLayoutAt, LacksLayout}
 use Rattle.cli_files.specs.declared.status.Status.{Status}
 use Rattle.cli_files.specs.declared.status.Status.TheVariants as status
 
--- what the output has after the layout's text was put to it, and the report, by the status
+-- what the output has after the layout's text was written to it, and the report, by the status
 abbrev pub WritesText : Plan → Option (List ℕ) → Option (List ℕ) → Status → List ℕ → Type 0
 WritesText plan before after status.Done report =
     Writes before after (layout_text plan) × (report ≡ [])
@@ -27,7 +27,7 @@ pub record WritesLayout (layout : NamedLayout) (before after : FileSide) (answer
   pub named : IsLayoutAt layout before.files after.files plan
   pub text : WritesText plan before.output after.output answer report
 
--- there is no layout, and the output was left alone
+-- there is no layout, and the output was left unchanged
 pub record RefusesCheck (layout : NamedLayout) (before after : FileSide) (answer : Status)
     (report : List ℕ) : Type 0 where
   pub lacks : LacksLayout layout before.files after.files answer report

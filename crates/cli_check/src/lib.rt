@@ -1,4 +1,4 @@
-//! The command `check`: a layout is put to the output in its canonical form.
+//! The command `check`: a layout is written to the output in its canonical form.
 #![tactic(auto)]
 
 mod check;

@@ -25,12 +25,12 @@ rest_of (first ∷ moves) (suc k) =
     append_assoc (allowed_line first) (allowed_lines (take k moves)) (allowed_lines (drop k moves))
     ∙ ap (λ (text : List ℕ). allowed_line first ++ text) (rest_of moves k)
 
--- after it others may follow
+-- other lines may follow it
 pub line-after : (moves : List Move) (k : ℕ) (mv : Move) → Some mv ≡ slice_get moves k →
     (rest : List ℕ) × ((allowed_lines (take k moves) ++ allowed_line mv) ++ rest ≡ allowed_lines moves)
 line-after moves k mv e =
     (allowed_lines (drop (k + 1) moves), ap (λ (text : List ℕ). text ++ allowed_lines (drop (k + 1) moves)) (line-next moves k mv e) ∙ rest_of moves (k + 1))
 
--- these are all
+-- these are all lines
 pub lines-all : (moves : List Move) (k : ℕ) → length moves ≤ k → allowed_lines (take k moves) ≡ allowed_lines moves
 lines-all moves k all = ap (λ (ms : List Move). allowed_lines ms) (take_all k moves all)

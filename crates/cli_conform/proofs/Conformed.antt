@@ -23,7 +23,7 @@ use Rattle.cli_reports.proofs.PutReports.{answer-put}
 use Rattle.cli_conform.specs.Conform.{AnswersConform, ClosesLog, ComesOfLog, ConformAsked, JudgesCore, RefusesConform, log_status}
 use Rattle.cli_conform.specs.LogLines.{log_closing}
 
--- the report of a log was put, or failed
+-- the report of a log was written, or failed
 pub log-closed : (limit : ℕ) (core last : Processor) (before after : Streams) (blank full : Report) (start progress : LogProgress) (found : Conformed)
     (reported : Reported) → start ≡ no_progress →
     JudgesLog limit before.input after.input (log_place core before.output start) (log_place last after.output progress) found →
@@ -41,7 +41,7 @@ log-closed limit core last before after blank full start progress found reported
   closes.puts,
 )
 
--- the status says of the input and the output what the judgement says of them, and nothing of files
+-- about the input and the output the status says what the judgement says, and about files nothing
 input_found : (limit moves : ℕ) (found : Conformed) → input_answered (log_status limit moves found) ≡ log_judged (Some found)
 input_found limit moves (Ran (ran.Exit status)) = refl
 input_found limit moves (Ran (ran.Trap cause pc detail)) = refl
@@ -64,7 +64,7 @@ files_found limit moves LogEnd = refl
 files_found limit moves (BadLog refusal) = refl
 files_found limit moves (Differs number part) = refl
 
--- the same of the counts
+-- the same for the counts
 pub log-input : (limit moves : ℕ) (found : Conformed) (said : Status) (before now : ℕ) → said ≡ log_status limit moves found →
     HasCause before now (log_judged (Some found)) → HasCause before now (input_answered said)
 log-input limit moves found said before now is h = rw (is, input_found limit moves found) h
@@ -72,7 +72,7 @@ log-input limit moves found said before now is h = rw (is, input_found limit mov
 pub log-files : (limit moves : ℕ) (found : Conformed) (said : Status) → said ≡ log_status limit moves found → files_answered said ≡ Ok tt
 log-files limit moves found said is = rw is (files_found limit moves found)
 
--- on the processor of a layout, opened on a hart, it is what comes of both
+-- on the processor of a layout, opened on a hart, this is the outcome for the layout and the hart
 pub log-comes : (limit : ℕ) (core last : Processor) (plan : Plan) (hart : Hart) (before after : Streams) (blank full : Report) (reported : Reported) →
     core ≡ opened_processor plan hart → ReportsAlone (JudgesCore limit core last before after) blank full reported →
     ReportsAlone (ComesOfLog limit plan hart before after) blank full reported

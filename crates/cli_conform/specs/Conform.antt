@@ -1,4 +1,4 @@
--- What the command `conform` answers, and what it leaves of the outside.
+-- The answer of the command `conform`, and its effect on the outside.
 use Rattle.std.specs.Prelude.{◌≡◌, ◌⊎◌, ℕ, List}
 use Rattle.rv_machine.specs.Hart.{Hart}
 use Rattle.rv_machine.specs.Streams.{Streams}
@@ -28,13 +28,13 @@ log_status limit moves LogEnd = status.LogEnd moves
 log_status limit moves (BadLog refusal) = status.BadLog refusal
 log_status limit moves (Differs number part) = status.BadLog (record { line = number; kind = kind.Differs })
 
--- the status says how going through the log finished, and its report, or a prefix of it, was put
+-- the status says how processing the log finished, and its report, or a prefix of it, was written
 abbrev pub ClosesLog : (limit : ℕ) → Conformed → Processor → LogProgress → (half full : Report) → Reported → Type 0
 ClosesLog limit answer last progress half full reported =
     ClosesWith (log_status limit progress.tally.moves answer) (log_closing limit answer last.plan last.state progress) half full reported
 
--- what the arguments ask of `conform`: where the layout is, the file with the program, and the number of retired instructions at
--- which it stops
+-- what the arguments ask of `conform`: where the layout is, the file with the program, and the number of retired
+-- instructions at which it stops
 pub record ConformAsked : Type 0 where
   pub layout : NamedLayout
   pub program : List ℕ
@@ -43,7 +43,7 @@ pub record ConformAsked : Type 0 where
 abbrev pub conform_asked : NamedLayout → List ℕ → ℕ → ConformAsked
 conform_asked layout program limit = record { layout = layout; program = program; limit = limit }
 
--- the log was gone through on a processor; the status says how this finished, and this is the whole report
+-- the log was processed on a processor; the status says how this finished, and this is the whole report
 pub record JudgesCore (limit : ℕ) (core last : Processor) (before after : Streams) (answer : Status) (report : List ℕ) : Type 0 where
   pub progress : LogProgress
   pub found : Conformed
@@ -51,20 +51,20 @@ pub record JudgesCore (limit : ℕ) (core last : Processor) (before after : Stre
   pub status_is : answer ≡ log_status limit progress.tally.moves found
   pub reports : report ≡ log_closing limit found last.plan last.state progress
 
--- what comes of a layout and a hart: the log was gone through on the processor of the layout, opened on the hart; or memory for
--- it was refused
+-- the outcome for a layout and a hart: the log was processed on the processor of the layout, opened on the hart; or
+-- memory for it was refused
 abbrev pub ComesOfLog : ℕ → Plan → Hart → Streams → Streams → Status → List ℕ → Type 0
 ComesOfLog limit plan hart before after answer report =
     ((last : Processor) × JudgesCore limit (opened_processor plan hart) last before after answer report) ⊎ LacksProcessor before after answer report
 
--- the layout and the program were read, and this comes of them
+-- the layout and the program were read, and this is the outcome
 pub record ConformsLoaded (asked : ConformAsked) (before after : Outside) (answer : Status) (report : List ℕ) : Type 0 where
   pub plan : Plan
   pub hart : Hart
   pub loaded : IsLoaded asked.layout asked.program before.files after.files plan hart
   pub comes : ComesOfLog asked.limit plan hart before.streams after.streams answer report
 
--- one of them is missing, and the streams were left alone
+-- one of them is missing, and the streams were left unchanged
 pub record RefusesConform (asked : ConformAsked) (before after : Outside) (answer : Status) (report : List ℕ) : Type 0 where
   pub lacks : LacksLoaded asked.layout asked.program before.files after.files answer report
   pub streams : after.streams ≡ before.streams

@@ -33,7 +33,7 @@ log_refusal kind.Differs = codes "Differs"
 unfoldable pub bad_log_line : ℕ → LogKind → List ℕ
 bad_log_line number kind = line (codes "bad log line " ++ decimal number ++ codes ": " ++ log_refusal kind)
 
--- how going through a log finished under this limit, with this many moves made
+-- how processing a log finished under this limit, with this many moves made
 unfoldable pub log_line : (limit moves : ℕ) → Conformed → List ℕ
 log_line limit moves (Ran ran) = line_of_run limit ran
 log_line limit moves LogEnd = line (codes "log end after " ++ decimal moves ++ codes " moves")
@@ -56,7 +56,7 @@ unfoldable pub expected_text : Option (List ℕ) → List ℕ
 expected_text None = []
 expected_text (Some wanted) = codes "expected " ++ wanted
 
--- after the refusal of a line: the moves that can be made if one is barred
+-- after the refusal of a line: the moves that can be made, if the line's move is barred
 abbrev pub after_refusal : Plan → State → LogKind → List ℕ
 after_refusal plan s (kind.Barred bar) = allowed_text plan s
 after_refusal plan s kind.TooLong = []

@@ -11,7 +11,7 @@ use cf_core::Core;
 use cf_index::Candidates;
 use cf_io::{Failed, Sink, put_all};
 
-/// Puts the line of a move that can be made, without its line feed.
+/// Writes the line of a move that can be made, without its line feed.
 fn put_words<R: Sink>(mv: Move, report: &mut R) -> Result<(), Failed>
     ensures { PutsInto R.Sink report.old report.new (codes "allowed " ++ move_line mv) result }
 {
@@ -21,7 +21,7 @@ fn put_words<R: Sink>(mv: Move, report: &mut R) -> Result<(), Failed>
     put_all(report, line.bytes())
 }
 
-/// Puts the line of a move that can be made.
+/// Writes the line of a move that can be made.
 fn put_allowed<R: Sink>(mv: Move, report: &mut R) -> Result<(), Failed>
     ensures { PutsInto R.Sink report.old report.new (allowed_line mv) result }
 {
@@ -29,7 +29,7 @@ fn put_allowed<R: Sink>(mv: Move, report: &mut R) -> Result<(), Failed>
     put_all(report, b"\n")
 }
 
-/// Puts the lines of some candidates.
+/// Writes the lines of some candidates.
 fn put_listed<R: Sink>(candidates: &Candidates, report: &mut R) -> Result<(), Failed>
     ensures { PutsInto R.Sink report.old report.new (allowed_lines candidates.now) result }
 {
@@ -39,7 +39,7 @@ fn put_listed<R: Sink>(candidates: &Candidates, report: &mut R) -> Result<(), Fa
     Ok(())
 }
 
-/// Puts a line for each move that can be made, in the order of all moves.
+/// Writes a line for each move that can be made, in the order of all moves.
 pub(crate) fn put_candidates<R: Sink>(
     core: &Core,
     candidates: &mut Candidates,

@@ -35,7 +35,7 @@ fn status_of(limit: u64, moves: u64, answer: Conformed) -> Status
     }
 }
 
-/// Puts the first line.
+/// Writes the first line.
 fn put_head<R: Sink>(
     limit: u64,
     moves: u64,
@@ -48,7 +48,7 @@ fn put_head<R: Sink>(
     put_all(report, page.bytes())
 }
 
-/// Puts what the line should be.
+/// Writes the line that the observation should be.
 fn put_wanted<R: Sink>(wanted: &[u8], report: &mut R) -> Result<(), Failed>
     ensures { PutsInto R.Sink report.old report.new (codes "expected " ++ wanted.now) result }
 {
@@ -66,7 +66,7 @@ fn put_expected<R: Sink>(wanted: Option<Page>, report: &mut R) -> Result<(), Fai
     }
 }
 
-/// Puts what follows the refusal of a line.
+/// Writes what follows the refusal of a line.
 fn put_after<R: Sink>(
     core: &Core,
     candidates: &mut Candidates,
@@ -87,7 +87,7 @@ fn put_after<R: Sink>(
     }
 }
 
-/// Puts what follows the first line.
+/// Writes what follows the first line.
 fn put_help<R: Sink>(
     core: &Core,
     candidates: &mut Candidates,
@@ -117,7 +117,7 @@ fn counts_page(retired: u64, observed: u64) -> Page
     page
 }
 
-/// Puts these two counts.
+/// Writes these two counts.
 fn put_counts<R: Sink>(retired: u64, observed: u64, report: &mut R) -> Result<(), Failed>
     ensures { PutsInto R.Sink report.old report.new (agreement_text retired observed) result }
 {
@@ -125,7 +125,7 @@ fn put_counts<R: Sink>(retired: u64, observed: u64, report: &mut R) -> Result<()
     put_all(report, page.bytes())
 }
 
-/// Puts the counts of the moves, the registers and the picture.
+/// Writes the counts of the moves, the registers and the picture.
 fn put_rest<R: Sink>(core: &Core, tally: &Tally, report: &mut R) -> Result<(), Failed>
     ensures { PutsInto R.Sink report.old report.new (rest_text core.now.plan core.now.state tally.now) result }
 {
@@ -134,7 +134,7 @@ fn put_rest<R: Sink>(core: &Core, tally: &Tally, report: &mut R) -> Result<(), F
     put_picture(core, report)
 }
 
-/// Puts the report of a log.
+/// Writes the report of a log.
 fn put_closing<R: Sink>(
     core: &Core,
     candidates: &mut Candidates,
@@ -151,7 +151,7 @@ fn put_closing<R: Sink>(
     put_rest(core, &progress.tally, report)
 }
 
-/// Puts the report of a log that ended in this way.
+/// Writes the report of a log that ended in this way.
 pub(crate) fn close_log<R: Sink>(
     core: &Core,
     candidates: &mut Candidates,

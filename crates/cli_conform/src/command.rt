@@ -16,7 +16,7 @@ use cli_processor::{Opened, open};
 use cli_reports::{Reported, RunStreams, put_answer};
 use std::alloc::Global;
 
-/// Goes through the log on the opened processor, and puts its report.
+/// Processes the log on the opened processor, and writes its report.
 fn conform_opened<S: Source, K: Sink, R: Sink>(
     opened: &mut Opened,
     limit: u64,
@@ -44,7 +44,7 @@ fn conform_opened<S: Source, K: Sink, R: Sink>(
     )
 }
 
-/// Opens the processor of the layout on the machine, and goes through the log.
+/// Opens the processor of the layout on the machine, and processes the log.
 #[tactic(auto, using(cf_run::proofs::Opened::opened_cores))]
 fn conform_loaded<S: Source, K: Sink, R: Sink>(
     alloc: Global,
@@ -63,11 +63,11 @@ fn conform_loaded<S: Source, K: Sink, R: Sink>(
     }
 }
 
-/// Carries out `conform`: reads the layout and the program, in this order, and goes through the log on the input: it makes the
-/// moves in it and compares its observations with the processor, up to the first line that is refused or does not agree. It puts
-/// how this finished, which moves can be made where the log ends or a move is barred or what an observation should be, and how
-/// many instructions retired, how many observations agreed, the tally of the moves, the registers and the picture. The program's
-/// own input is empty.
+/// Carries out `conform`: reads the layout and the program, in this order, and processes the log on the input: it makes
+/// the moves in it and compares its observations with the processor, up to the first line that is refused or does not
+/// agree. It writes how this finished; then the moves that can be made, if the log ended or a move is barred, or what
+/// an observation should be; and then how many instructions retired, how many observations agreed, the tally of the
+/// moves, the registers and the picture. The program's own input is empty.
 pub fn conform_log<F: Files, S: Source, K: Sink, R: Sink>(
     alloc: Global,
     layout: LayoutArgument<'_>,

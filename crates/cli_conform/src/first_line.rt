@@ -47,7 +47,7 @@ fn bad_page(line: u32, kind: LogKind) -> Page
     page
 }
 
-/// How many moves a log had that has ended.
+/// The number of moves of a log that has ended.
 fn end_page(moves: u64) -> Page
     ensures text { result ≡ log_line 0 moves answer.LogEnd }
     ensures size { length result ≤ 80 }
@@ -59,7 +59,7 @@ fn end_page(moves: u64) -> Page
     page
 }
 
-/// The line that says how going through a log finished under a limit, with this many moves made.
+/// The line that says how processing a log finished under a limit, with this many moves made.
 pub(crate) fn log_page(limit: u64, moves: u64, answer: Conformed) -> Page
     ensures text { result ≡ log_line limit moves answer }
     ensures size { length result ≤ 80 }

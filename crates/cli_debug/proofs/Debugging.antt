@@ -25,7 +25,7 @@ use Rattle.cli_debug.specs.Closing.{ClosesSession, closing_of_session, session_b
 use Rattle.cli_debug.specs.Debug.{AnswersDebug, AnswersSession, BreaksDebug, BreaksSession, ComesOfCommands, HasSession, RefusesDebug}
 use Rattle.cli_debug.proofs.Telling.{Tells, tells}
 
--- a session whose report did not fail ended otherwise, and one whose report failed in this way
+-- a session ended with ReportFault exactly if its report failed
 sound-ended : (ended : Debugged) → session_broken ended ≡ false → ended ≢ ReportFault
 sound-ended ReportFault sound is = absurd (cc)
 sound-ended Done sound is = absurd (cc)
@@ -40,7 +40,7 @@ broken-ended Limit cut = absurd (cc)
 broken-ended ReadFault cut = absurd (cc)
 broken-ended WriteFault cut = absurd (cc)
 
--- the count of the report's faults stays where the report did not fail in the session, and rises where it did
+-- the count of the report's faults is unchanged if the report did not fail in the session, and rises if it did
 report-stays : (before now : ℕ) (ended : Debugged) → session_broken ended ≡ false → HasCause before now (report_ended (Some ended)) → now ≡ before
 report-stays before now Done sound h = h.still
 report-stays before now Limit sound h = h.still
@@ -55,7 +55,7 @@ report-rose before now Limit cut h = absurd (cc)
 report-rose before now ReadFault cut h = absurd (cc)
 report-rose before now WriteFault cut h = absurd (cc)
 
--- its last line was put, or failed, or its report had failed during it
+-- its last line was written, or failed, or its report had failed during the session
 closed-so : (core last : Processor) (kept : List Kept) (before after : Streams) (blank half full : Report) (ended : Debugged)
     (result : Result Reported Failed) →
     Debugs (session_of (processor_state core [] before.output) before.input blank.written)
@@ -109,7 +109,7 @@ pub session-closed : (core last : Processor) (ring kept : List Kept) (before aft
 session-closed core last ring kept before after blank half full ended result empty session stays cause closes =
     closed-so core last kept before after blank half full ended result (rw empty at session) stays cause closes
 
--- on the processor of a layout, opened on a hart, it is what comes of both
+-- on the processor of a layout, opened on a hart, this is the outcome for the layout and the hart
 pub session-comes : (core : Processor) (plan : Plan) (hart : Hart) (before after : Streams) (blank full : Report) (result : Result Reported Failed) →
     core ≡ opened_processor plan hart →
     Comes (λ answer shown closing. AnswersSession core before after answer (shown ++ closing))

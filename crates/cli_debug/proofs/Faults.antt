@@ -1,4 +1,4 @@
--- What a session says of the streams and of files, by how it ended.
+-- What the end of a session says about the streams and the files.
 use Rattle.std.proofs.Common.{◌≡◌, ℕ, true, false, Some, Result, Ok, Err, refl}
 use Rattle.cf_io.specs.Causes.{HasCause}
 use Rattle.cf_io.specs.declared.failed.Failed.{Failed}
@@ -12,7 +12,7 @@ use Rattle.cli_reports.specs.declared.reporting.Reported.{Reported}
 use Rattle.cli_reports.proofs.PutReports.{closed-tells}
 use Rattle.cli_debug.specs.Closing.{ClosesSession, closing_of_session, session_broken, session_status}
 
--- the status says of the input and the output what the session says of them, and nothing of files
+-- about the input and the output the status says what the session says, and about files nothing
 input-said : (ended : Debugged) → input_answered (session_status ended) ≡ commands_ended (Some ended)
 input-said Done = refl
 input-said Limit = refl
@@ -34,7 +34,7 @@ files-said ReadFault = refl
 files-said WriteFault = refl
 files-said ReportFault = refl
 
--- where the report failed, neither of the two did
+-- if the report failed, neither of the two did
 input-works : (ended : Debugged) → session_broken ended ≡ true → commands_ended (Some ended) ≡ Ok tt
 input-works ReportFault cut = refl
 input-works Done cut = absurd (cc)
@@ -49,7 +49,7 @@ output-works Limit cut = absurd (cc)
 output-works ReadFault cut = absurd (cc)
 output-works WriteFault cut = absurd (cc)
 
--- the same of the counts
+-- the same for the counts
 pub session-input : (ended : Debugged) (half full : Report) (result : Result Reported Failed) (before now : ℕ) → ClosesSession ended half full result →
     HasCause before now (commands_ended (Some ended)) → FaultsReported input_answered before now result
 session-input ended half full result before now closes h =

@@ -1,4 +1,4 @@
--- What a session put to its report, as a report that was empty before would tell it.
+-- What a session wrote to its report, as if the report had been empty before.
 use Rattle.std.proofs.Common.{◌≢◌, ℕ, List, [], ◌++◌, Option, Some, refl, sym, subst, inl, inr}
 use Rattle.cf_io.specs.Puts.{Writes}
 use Rattle.cf_io.proofs.Owing.{writes-again}
@@ -7,11 +7,11 @@ use Rattle.cf_debug.specs.declared.answer.Debugged.TheVariants.{Done, Limit, Rea
 use Rattle.cf_debug.specs.Replies.{DebuggerState}
 use Rattle.cf_debug.specs.Sessions.{AnswersWhole, LineLeaves, EndsAtFault, EndsAtLast, EndsAtLimit, EndsAtLine, EndsSession, Session}
 
--- the session with the report beside it
+-- the session with this in its report
 abbrev pub reporting : Session → List ℕ → Session
 reporting s told = record s { report = Some told }
 
--- this was put to the report, and the session ends in the same way over an empty one
+-- this was written to the report, and the session ends in the same way over an empty one
 pub record Tells (before after : Session) (begin new : DebuggerState) (ended : Debugged) : Type 0 where
   pub lines : List ℕ
   pub put : Writes before.report after.report lines
@@ -65,7 +65,7 @@ whole bytes begin now written after a = record {
   answers = (a.answers.0, a.answers.1, refl);
 }
 
--- where a take failed
+-- if a take failed
 tells-fault : (before after : Session) (begin new : DebuggerState) → EndsAtFault before after begin new → Tells before after begin new ReadFault
 unfolding EndsSession
 tells-fault before after begin new e = record {
@@ -93,7 +93,7 @@ tells-limit before after begin new e = record {
   };
 }
 
--- where the output failed
+-- if the output failed
 tells-output : (before after : Session) (begin new : DebuggerState) → EndsAtLine before after begin new WriteFault → Tells before after begin new WriteFault
 unfolding LineLeaves EndsSession
 tells-output before after begin new e =

@@ -1,4 +1,4 @@
--- What is put after a session that finished, and the outcome of the command.
+-- What is written after a session that finished, and the outcome of the command.
 use Rattle.std.specs.Prelude.{ℕ, List, [], codes, Bool, true, false, None, Result}
 use Rattle.cf_io.specs.declared.failed.Failed.{Failed}
 use Rattle.cf_debug.specs.declared.answer.Debugged.{Debugged}
@@ -24,7 +24,7 @@ session_status ReadFault = status.ReadFault which.Input
 session_status WriteFault = status.WriteFault
 session_status ReportFault = status.WriteFault
 
--- the line that closes its report, where it did not end as the commands wanted
+-- the closing line of its report, if the commands did not end it
 abbrev pub closing_of_session : Debugged → List ℕ
 closing_of_session Done = []
 closing_of_session Limit = line (codes "limit")
@@ -32,7 +32,7 @@ closing_of_session ReadFault = line (codes "read fault input")
 closing_of_session WriteFault = line (codes "write fault output")
 closing_of_session ReportFault = line (codes "write fault output")
 
--- that line was put where the report had not failed during the session; where it had, nothing more was put
+-- that line was written if the report had not failed during the session; if it had, nothing more was written
 abbrev pub ClosesSession : Debugged → (half full : Report) → Result Reported Failed → Type 0
 ClosesSession ended half full result =
     PutsClosing (session_broken ended) (session_status ended) (closing_of_session ended) half full result

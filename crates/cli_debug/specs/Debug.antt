@@ -1,4 +1,4 @@
--- What the command `debug` answers, and what it leaves of the outside.
+-- The answer of the command `debug`, and its effect on the outside.
 use Rattle.std.specs.Prelude.{◌≡◌, ◌≢◌, ◌⊎◌, ℕ, List, [], ◌++◌, Option, Some}
 use Rattle.rv_machine.specs.Hart.{Hart}
 use Rattle.rv_machine.specs.Streams.{Streams}
@@ -17,9 +17,9 @@ use Rattle.cli_files.specs.Outside.{Outside}
 use Rattle.cli_files.specs.declared.status.Status.{Status}
 use Rattle.cli_debug.specs.Closing.{closing_of_session, session_status}
 
--- a session on a processor as it was opened, with nothing kept; the input has its commands. It is left at a moment of a run of
--- the machine on which the processor was opened, with the output that the run's moves write; or the output failed the call that
--- was to be served there
+-- a session on a processor as it was opened, with nothing kept, whose commands are the input. It ends at a moment of a
+-- run of the machine on which the processor was opened, with the output that the run's moves write; or the output
+-- failed the call that was to be served there
 pub record HasSession (core : Processor) (before after : Streams) (blank full : Option (List ℕ)) (ended : Debugged) : Type 0 where
   pub last : Processor
   pub kept : List Kept
@@ -36,7 +36,7 @@ pub record AnswersSession (core : Processor) (before after : Streams) (answer : 
   pub status_is : answer ≡ session_status ended
   pub reports : report ≡ answers ++ closing_of_session ended
 
--- what comes of a layout and a hart: a session on the processor of that layout, opened on the hart
+-- the outcome for a layout and a hart: a session on the processor of that layout, opened on the hart
 abbrev pub ComesOfCommands : Plan → Hart → (before after : Streams) → Status → List ℕ → Type 0
 ComesOfCommands plan hart before after answer report =
     AnswersSession (opened_processor plan hart) before after answer report ⊎ LacksProcessor before after answer report
@@ -45,7 +45,7 @@ ComesOfCommands plan hart before after answer report =
 abbrev pub BreaksSession : Processor → (before after : Streams) → (blank full : Option (List ℕ)) → Type 0
 BreaksSession core before after blank full = HasSession core before after blank full ReportFault
 
--- the layout and the program are there, and this came of them
+-- the layout and the program were found, and this was the outcome
 pub record DebugsProgram (layout : NamedLayout) (program : List ℕ) (before after : Outside) (answer : Status)
     (report : List ℕ) : Type 0 where
   pub plan : Plan
@@ -53,7 +53,7 @@ pub record DebugsProgram (layout : NamedLayout) (program : List ℕ) (before aft
   pub loaded : IsLoaded layout program before.files after.files plan hart
   pub comes : ComesOfCommands plan hart before.streams after.streams answer report
 
--- one of them is missing, and the streams were left alone
+-- one of them is missing, and the streams were left unchanged
 pub record RefusesDebug (layout : NamedLayout) (program : List ℕ) (before after : Outside) (answer : Status)
     (report : List ℕ) : Type 0 where
   pub lacks : LacksLoaded layout program before.files after.files answer report
@@ -64,7 +64,7 @@ abbrev pub AnswersDebug : NamedLayout → List ℕ → Outside → Outside → S
 AnswersDebug layout program before after answer report =
     DebugsProgram layout program before after answer report ⊎ RefusesDebug layout program before after answer report
 
--- both are there, and the report failed during the session
+-- both were found, and the report failed during the session
 pub record BreaksDebug (layout : NamedLayout) (program : List ℕ) (before after : Outside)
     (blank full : Option (List ℕ)) : Type 0 where
   pub plan : Plan

@@ -1,4 +1,4 @@
-//! How a session finishes: its status, and the line that closes its report.
+//! How a session finishes: its status, and the closing line of its report.
 
 ghost use Rattle.std.specs.Prelude.{◌≡◌};
 ghost use Rattle.cli_files.specs.Outside.{report_in};
@@ -32,8 +32,8 @@ fn answer_of(ended: Debugged) -> Answer
     }
 }
 
-/// Puts the line that closes the report of a session, where the commands did not end it. It fails where the report
-/// failed during the session; nothing more is then put to the report.
+/// Writes the closing line of a session's report, if the commands did not end the session. It fails if the report
+/// failed during the session; then nothing more is written to the report.
 pub fn close_session<R: Sink>(ended: Debugged, report: &mut R) -> Result<Reported, Failed>
     ensures { ClosesSession ended (report_in R.Sink report.old) (report_in R.Sink report.new) result }
 {

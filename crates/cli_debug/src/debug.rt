@@ -17,7 +17,7 @@ use cli_processor::{Opened, open};
 use cli_reports::{Reported, RunStreams, put_answer};
 use std::alloc::Global;
 
-/// Debugs the opened processor, and puts the line that closes the report.
+/// Debugs the opened processor, and writes the closing line of the report.
 fn debug_opened<S: Source, K: Sink, R: Sink>(
     opened: &mut Opened,
     ring: &mut Ring,
@@ -67,11 +67,11 @@ fn debug_loaded<S: Source, K: Sink, R: Sink>(
     }
 }
 
-/// Carries out `debug`: reads the layout and the program, in this order, opens the processor, and answers the commands of the
-/// input, one a line, until one of them is `end` or there are no more. The answers are put to the report, and what the program
-/// writes to the output; the program's own input is empty. A session that ends otherwise has one more line, which says how:
-/// where there are over 16,777,216 bytes of commands, where these failed, and where the output failed. It fails where the report
-/// fails during the session; nothing more is then put to it.
+/// Carries out `debug`: reads the layout and the program, in this order, opens the processor, and answers the commands
+/// of the input, one per line, until one of them is `end` or there are no more. The answers are written to the report,
+/// and what the program writes to the output; the program's own input is empty. If a session ends in another way, one
+/// more line says how: there are over 16,777,216 bytes of commands, the commands failed, or the output failed. It fails
+/// if the report fails during the session; then nothing more is written to the report.
 pub fn debug_program<F: Files, S: Source, K: Sink, R: Sink>(
     alloc: Global,
     layout: LayoutArgument<'_>,

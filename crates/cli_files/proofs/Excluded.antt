@@ -12,11 +12,11 @@ use Rattle.cli_files.specs.Image.{IsProgramFile, IsRefused, elf_parts, flat_part
 use Rattle.report_refusals.specs.declared.faults.ProgramErr.{ProgramErr}
 use Rattle.report_refusals.specs.declared.faults.ProgramErr.TheVariants.{TooLong, Elf, Load}
 
--- a part to name where no part is read
+-- the part that a refusal names, if no part is read
 abbrev no_part : Part
 no_part = record { base = 0; start = 0; len = 0; size = 0; write = false; exec = false }
 
--- what a refusal says of parts is not true of those that are accepted
+-- what a refusal says about parts is false of accepted parts
 pub cause-excluded : (parts : List Part) (e : LoadErr) → AreAccepted parts → IsLoadCause parts e → e ≢ NoMemory → ⊥
 cause-excluded parts (TooMany n) a c other = omega (arith, c.0, a.few)
 cause-excluded parts (WrapsAround i) a c other = a.in_space i no_part c.within (c.wraps no_part)

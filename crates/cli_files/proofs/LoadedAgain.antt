@@ -1,4 +1,4 @@
--- A program that is loaded again, and the parts that it is loaded of.
+-- A program that is loaded again, and the parts from which it is loaded.
 use Rattle.std.proofs.Common.{◌≡◌, ◌≢◌, ℕ, ◌+◌, List, [], ◌∷◌, length, Bool, true, false, if◌then◌else◌, Option, Result, Ok, Err, IfOk, IfErr, inl, subst}
 use Rattle.cf_io.specs.Reads.{FilesSeen}
 use Rattle.elf_view.specs.Refusal.{starts_with_elf}
@@ -33,7 +33,7 @@ flat-accepted-too image p is = accepted-by image false is p
 
 pub ruleset images = (elf-accepted, flat-accepted-too)
 
--- images of a file that was read are those of the program that it holds
+-- the images of a file that was read are those of the program that it holds
 pub images-found : (before after : Option FilesSeen) (name image : List ℕ) (r : Result ProgramImages Answer) →
     IsFrontOf (most_bytes + 1) before after name image →
     IfOk r (λ images. IsProgramFile image) → IfOk r (λ images. images.machine ≡ hart_at_start image) →
@@ -46,7 +46,7 @@ images-found before after name image (Ok images) front program begins = record {
 }
 images-found before after name image (Err answer) front program begins = tt
 
--- a file that was read and is no program
+-- a file that was read and is not a program
 pub images-refused : (before after : Option FilesSeen) (name image : List ℕ) (r : Result ProgramImages Answer) →
     IsFrontOf (most_bytes + 1) before after name image →
     IfErr r (λ answer. IsNoProgram image answer.status answer.closing) →

@@ -1,4 +1,4 @@
--- A layout that an argument names, or that it lacks.
+-- A layout that an argument names, or that is missing.
 use Rattle.std.proofs.Common.{ℕ, ◌+◌, List, Option, Result, Ok, Err, IfOk, IfErr, inl}
 use Rattle.cf_io.specs.Reads.{FilesSeen}
 use Rattle.cf_layout.specs.Layout.{Plan}
@@ -10,7 +10,7 @@ use Rattle.cli_files.specs.Layouts.{IsLayoutAt, IsNoLayout, LacksLayout}
 use Rattle.cli_files.specs.LooseLayouts.{IsLooseLayoutAt, IsNoLooseLayout, LacksLooseLayout}
 use Rattle.cli_files.specs.declared.answer.Answer.{Answer}
 
--- a file that describes a layout is where it is
+-- a layout that its file describes
 pub layout-described : (before after : Option FilesSeen) (name file : List ℕ) (r : Result Plan Answer) →
     IsFrontOf (most_layout_bytes + 1) before after name file → IfOk r (λ plan. Describes file plan) →
     IfOk r (IsLayoutAt (in_file name) before after)
@@ -26,7 +26,7 @@ layout-refused before after name file (Ok plan) front h = tt
 layout-refused before after name file (Err answer) front h =
     inl (record { file = file; front = front; why = h })
 
--- the same, where a layout may break the rule on where control turns
+-- the same, if a layout may break the rule on where control turns
 pub loosely-described : (before after : Option FilesSeen) (name file : List ℕ) (r : Result Plan Answer) →
     IsFrontOf (most_layout_bytes + 1) before after name file → IfOk r (λ plan. DescribesLoosely file plan) →
     IfOk r (IsLooseLayoutAt (in_file name) before after)

@@ -1,4 +1,4 @@
--- No answer that is given in place of what a file holds says that the program's input or output failed.
+-- No answer that is given instead of a file's contents says that the program's input or output failed.
 use Rattle.std.proofs.Common.{◌≡◌, ℕ, List, Option, Result, Ok, Err, inl, inr, refl, arith}
 use Rattle.cf_io.specs.Causes.{HasCause}
 use Rattle.cf_io.specs.Reads.{FilesSeen}
@@ -12,12 +12,12 @@ use Rattle.cli_files.specs.RunFiles.{RunAsked, LacksRunFile}
 use Rattle.cli_files.specs.Scripts.{LacksScript}
 use Rattle.cli_files.specs.declared.status.Status.{Status}
 
--- a count that stays, where there is no error
+-- a count that is unchanged, if there is no error
 pub no-cause : (n : ℕ) (r : Result (Unit {0}) (Unit {0})) → r ≡ Ok tt → HasCause n n r
 no-cause n (Ok u) h = record { never_falls = omega arith; rose = tt; still = refl }
 no-cause n (Err u) h = absurd (cc)
 
--- the answer says of neither that it failed
+-- the answer does not say that a stream failed
 pub record SaysNoStream (answer : Status) : Type 0 where
   pub input : input_answered answer ≡ Ok tt
   pub output : output_answered answer ≡ Ok tt

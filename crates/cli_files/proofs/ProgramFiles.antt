@@ -1,4 +1,4 @@
--- A program that a file holds, or that it does not.
+-- A program that a file holds or does not hold.
 use Rattle.std.proofs.Common.{◌≡◌, ℕ, ◌+◌, List, Option, Result, Ok, Err, IfOk, IfErr, inl}
 use Rattle.cf_io.specs.Reads.{FilesSeen}
 use Rattle.rv_machine.specs.Hart.{Hart}
@@ -20,7 +20,7 @@ program-found before after name image (Ok hart) front program begins = record {
 }
 program-found before after name image (Err answer) front program begins = tt
 
--- an image that was read and is no program
+-- an image that was read and is not a program
 pub program-refused : (before after : Option FilesSeen) (name image : List ℕ) (r : Result Hart Answer) →
     IsFrontOf (most_bytes + 1) before after name image →
     IfErr r (λ answer. IsNoProgram image answer.status answer.closing) →

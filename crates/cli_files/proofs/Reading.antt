@@ -25,7 +25,7 @@ use Rattle.cli_files.specs.Scripts.{LacksScript}
 use Rattle.cli_files.specs.declared.status.Status.{Status}
 use Rattle.cli_files.specs.declared.status.Which.{Which}
 
--- files that tell were read by exactly these names, and memory was found for each
+-- files that expose their reads were read by exactly these names, and memory was found for each
 abbrev pub AllRead : List (List ℕ) → Option FilesSeen → Option FilesSeen → Type 0
 AllRead names None after = Unit {0}
 AllRead names (Some told) after =
@@ -72,7 +72,7 @@ were-none xs None b same = tt
 were-none xs (Some told) b same =
     (told, same, record { count = 0; within = omega arith; read = sym (append-nil told.read); unheld = inl refl })
 
--- the one name was read, but the read failed
+-- the single name was read, but the read failed
 were-failed : (a b : Option FilesSeen) (name : List ℕ) → NotesFailure a b name → WereRead (name ∷ []) a b
 were-failed None b name h = tt
 were-failed (Some told) b name h =
@@ -93,7 +93,7 @@ pub were-lacking : (which : Which) (reported name : List ℕ) (a b : Option File
 were-lacking which reported name a b answer report (inl r) = were-failed a b name r.noted
 were-lacking which reported name a b answer report (inr r) = were-unheld a b name r.noted
 
--- a count of reads without memory, after files for each of which there was some
+-- the count of reads without memory, after files for each of which there was some
 later : (before between after size count all : ℕ) → between ≡ before →
     (after ≡ between) ⊎ ((after ≡ raised between) × (count < size)) →
     (after ≡ before) ⊎ ((after ≡ raised before) × (all + count < all + size))
@@ -177,7 +177,7 @@ loaded-lacking argument name a b answer report (inr h) =
     were-after (layout_files argument) (name ∷ []) a h.between b (layout-read argument a h.between h.plan h.laid)
     (program-lacking name h.between b answer report h.lacks)
 
--- the same, where the layout may break the rule on where control turns
+-- the same, if the layout may break the rule on where control turns
 loose-layout-read : (argument : NamedLayout) (a b : Option FilesSeen) (plan : Plan) → IsLooseLayoutAt argument a b plan → AllRead (layout_files argument) a b
 loose-layout-read plain a b plan h = none-read a b h.1
 loose-layout-read (in_file name) a b plan (file, front, describes) = one-read (most_layout_bytes + 1) a b name file front

@@ -31,13 +31,13 @@ parts-lie file h =
     (All-cons (LiesIn file) stack_part []
     (record { in_file = omega arith; in_size = omega arith }) (All-nil (LiesIn file)))
 
--- the number of all parts is one more than that of those of the segments
+-- the number of all parts is one more than that of the segments' parts
 pub count-parts : (file : List ℕ) →
     length (elf_parts file) ≡ length (parts_of_segments (segments_of file)) + 1
 unfolding elf_parts
 count-parts file = length-append (parts_of_segments (segments_of file)) (stack_part ∷ [])
 
--- over 16 parts are refused first
+-- more than 16 parts are refused first
 pub too-many : (parts : List Part) (n : ℕ) → n ≡ min (length parts) (2 ^ 32 - 1) → 16 < n →
     refusal parts ≡ Some (TooMany n)
 unfolding refusal too_many

@@ -5,7 +5,7 @@ use Rattle.cli_files.specs.declared.status.Status.{Status}
 use Rattle.cli_files.specs.declared.status.Status.TheVariants as status
 use Rattle.cli_files.specs.declared.status.Which.TheVariants as which
 
--- an error where the answer is that the program's input failed
+-- an error if the answer is that the program's input failed
 abbrev pub input_answered : Status → Result (Unit {0}) (Unit {0})
 input_answered (status.ReadFault which.Input) = Err tt
 input_answered (status.ReadFault which.Layout) = Ok tt
@@ -16,7 +16,7 @@ input_answered (status.ReadFault which.Delays) = Ok tt
 input_answered (status.ReadFault which.Trace) = Ok tt
 input_answered _ = Ok tt
 
--- an error where the answer is that a file could not be read
+-- an error if the answer is that a file could not be read
 abbrev pub files_answered : Status → Result (Unit {0}) (Unit {0})
 files_answered (status.ReadFault which.Input) = Ok tt
 files_answered (status.ReadFault which.Layout) = Err tt
@@ -27,22 +27,22 @@ files_answered (status.ReadFault which.Delays) = Err tt
 files_answered (status.ReadFault which.Trace) = Err tt
 files_answered _ = Ok tt
 
--- the same where the program's input is in a file too
+-- the same, if the program's input is in a file too
 abbrev pub reading_answered : Status → Result (Unit {0}) (Unit {0})
 reading_answered (status.ReadFault which) = Err tt
 reading_answered _ = Ok tt
 
--- an error where it is the answer that was given in place of what a file holds
+-- an error if that is the answer given instead of a file's contents
 abbrev pub files_read : {T : Type 0} → Result T Answer → Result (Unit {0}) (Unit {0})
 files_read (Ok x) = Ok tt
 files_read (Err answer) = files_answered answer.status
 
--- the same of what is read where the program's input is in a file too
+-- the same, if the program's input is in a file too
 abbrev pub reading_failed : {T : Type 0} → Result T Answer → Result (Unit {0}) (Unit {0})
 reading_failed (Ok x) = Ok tt
 reading_failed (Err answer) = reading_answered answer.status
 
--- an error where the answer is that the program's output failed
+-- an error if the answer is that the program's output failed
 abbrev pub output_answered : Status → Result (Unit {0}) (Unit {0})
 output_answered status.WriteFault = Err tt
 output_answered _ = Ok tt

@@ -1,4 +1,4 @@
--- Files that arguments of the command line name: what a read of one of them leaves of the files.
+-- Files that arguments of the command line name: the effect of a read on the files.
 use Rattle.std.specs.Prelude.{◌≡◌, ◌⊎◌, ℕ, List, take, codes, Option, Some, None}
 use Rattle.cf_io.specs.Reads.{FilesSeen, with_read, with_failed, with_unheld}
 use Rattle.texts.specs.Lines.{line}
@@ -6,19 +6,19 @@ use Rattle.cli_files.specs.declared.status.Status.{Status}
 use Rattle.cli_files.specs.declared.status.Status.TheVariants as status
 use Rattle.cli_files.specs.declared.status.Which.{Which}
 
--- the file's first bytes, at most this many; files that tell have noted a read by this name, and no other
+-- the file's first bytes, at most this many; files that expose their reads have noted a read by this name, and no other
 abbrev pub IsFrontOf : ℕ → Option FilesSeen → Option FilesSeen → List ℕ → List ℕ → Type 0
 IsFrontOf most None after name bytes = Unit {0}
 IsFrontOf most (Some told) after name bytes =
     (content : List ℕ) × (told.content name ≡ Some content) × (bytes ≡ take most content)
     × (after ≡ Some (with_read told name))
 
--- files that tell have noted a failed read by this name, and no other read
+-- files that expose their reads have noted a failed read by this name, and no other read
 abbrev pub NotesFailure : Option FilesSeen → Option FilesSeen → List ℕ → Type 0
 NotesFailure None after name = Unit {0}
 NotesFailure (Some told) after name = after ≡ Some (with_failed told name)
 
--- files that tell have noted a read that found no memory, and no other
+-- files that expose their reads have noted a read that found no memory, and no other
 abbrev pub NotesUnheld : Option FilesSeen → Option FilesSeen → Type 0
 NotesUnheld None after = Unit {0}
 NotesUnheld (Some told) after = after ≡ Some (with_unheld told)

@@ -1,4 +1,4 @@
--- What a program file is: the parts of memory that it describes, where it is entered, and why it is no program (Tool
+-- What a program file is: the parts of memory that it describes, its entry, and why a file is not a program (Tool
 -- Interface Standard, Executable and Linking Format Specification, "Program Loading"; flat images are a convention of
 -- this project).
 use Rattle.std.specs.Prelude.{◌≡◌, ◌<◌, ◌≤◌, ℕ, List, [], ◌∷◌, ◌++◌, length, map, filter, nat_lt, Bool, true, false, Some, if◌then◌else◌}
@@ -16,11 +16,11 @@ use Rattle.rv_machine.specs.Machine.{start_hart}
 use Rattle.report_refusals.specs.declared.faults.ProgramErr.{ProgramErr}
 use Rattle.report_refusals.specs.declared.faults.ProgramErr.TheVariants as program
 
--- the greatest length of a program file, in bytes
+-- the maximum length of a program file, in bytes
 abbrev pub most_bytes : ℕ
 most_bytes = 33554432
 
--- where a flat image stands, and where it is entered
+-- the address of a flat image, and its entry
 abbrev pub flat_base : ℕ
 flat_base = 0x10000
 
@@ -45,11 +45,11 @@ part_of s = record {
   exec = s.exec;
 }
 
--- the segment takes room in memory
+-- the segment takes up memory
 abbrev pub takes_room : LoadSegment → Bool
 takes_room s = nat_lt 0 s.memsz
 
--- the parts of those segments that take room, in their order
+-- the parts of those segments that take up memory, in their order
 abbrev pub parts_of_segments : List LoadSegment → List Part
 parts_of_segments segments = map part_of (filter takes_room segments)
 
@@ -62,7 +62,7 @@ abbrev pub parts_of : List ℕ → List Part
 parts_of image =
     if starts_with_elf image then elf_parts image else flat_part (length image) ∷ stack_part ∷ []
 
--- where a program is entered
+-- the entry of a program
 abbrev pub image_entry : List ℕ → ℕ
 image_entry image = if starts_with_elf image then (file_header image).entry else flat_base
 
@@ -76,8 +76,8 @@ pub record IsProgramFile (image : List ℕ) : Type 0 where
   pub formed : starts_with_elf image ≡ true → IsElf image
   pub loads : AreAccepted (parts_of image)
 
--- why the file is no program: it is too long; or else it begins as an ELF file and fails the tests of its form; or else
--- the parts of that ELF file cannot be loaded
+-- why the file is not a program: it is too long; or otherwise it begins as an ELF file and fails the tests of its form;
+-- or otherwise the parts of that ELF file cannot be loaded
 abbrev pub IsRefused : List ℕ → ProgramErr → Type 0
 IsRefused image program.TooLong = most_bytes < length image
 IsRefused image (program.Elf error) =

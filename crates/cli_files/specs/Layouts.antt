@@ -15,14 +15,14 @@ use Rattle.cli_files.specs.declared.status.Status.{Status}
 use Rattle.cli_files.specs.declared.status.Status.TheVariants as status
 use Rattle.cli_files.specs.declared.status.Which.TheVariants as which
 
--- the argument names this layout: the built-in one, or the one that is described by its file's first bytes, one more than a
--- layout may have
+-- the argument names this layout: the built-in one, or the one that is described by its file, of which up to one byte
+-- more than a layout may have is read
 abbrev pub IsLayoutAt : NamedLayout → Option FilesSeen → Option FilesSeen → Plan → Type 0
 IsLayoutAt plain before after plan = (plan ≡ built_in.plain) × (after ≡ before)
 IsLayoutAt (in_file name) before after plan =
     (file : List ℕ) × IsFrontOf (most_layout_bytes + 1) before after name file × Describes file plan
 
--- the content of a file is no layout, and the status and the report say why; or memory for it was refused
+-- the content of a file is not a layout, and the status and the report say why; or memory for it was refused
 abbrev pub IsNoLayout : List ℕ → Status → List ℕ → Type 0
 IsNoLayout file answer report =
     ((error : FileErr) × LayoutFails file error × (error ≢ err.NoMemory)
@@ -36,7 +36,7 @@ pub record RefusesLayout (name : List ℕ) (before after : Option FilesSeen) (an
   pub front : IsFrontOf (most_layout_bytes + 1) before after name file
   pub why : IsNoLayout file answer report
 
--- why the argument names no layout, the status that says so, and the report; the built-in layout is always there
+-- why the argument names no layout, the status that says so, and the report; the built-in layout always exists
 abbrev pub LacksLayout : NamedLayout → Option FilesSeen → Option FilesSeen → Status → List ℕ → Type 0
 LacksLayout plain before after answer report = ⊥
 LacksLayout (in_file name) before after answer report =

@@ -16,7 +16,7 @@ pub record IsLoaded (layout : NamedLayout) (name : List ℕ) (before after : Opt
   pub laid : IsLayoutAt layout before between plan
   pub program : IsProgramAt name between after hart
 
--- the layout is there, and the program is not
+-- the layout was found, and the program was not
 pub record StopsAtProgram (layout : NamedLayout) (name : List ℕ) (before after : Option FilesSeen) (answer : Status)
     (report : List ℕ) : Type 0 where
   pub plan : Plan
@@ -24,13 +24,13 @@ pub record StopsAtProgram (layout : NamedLayout) (name : List ℕ) (before after
   pub laid : IsLayoutAt layout before between plan
   pub lacks : LacksProgram name between after answer report
 
--- the first of the two that is not there, the status that says why, and the report
+-- the first of the two that is missing, the status that says why, and the report
 abbrev pub LacksLoaded : NamedLayout → List ℕ → Option FilesSeen → Option FilesSeen → Status → List ℕ → Type 0
 LacksLoaded layout program before after answer report =
     LacksLayout layout before after answer report
     ⊎ StopsAtProgram layout program before after answer report
 
--- the same, where the layout may break the rule on where control turns
+-- the same, if the layout may break the rule on where control turns
 pub record IsLoadedLoosely (layout : NamedLayout) (name : List ℕ) (before after : Option FilesSeen) (plan : Plan)
     (hart : Hart) : Type 0 where
   pub between : Option FilesSeen

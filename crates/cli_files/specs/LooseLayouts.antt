@@ -1,4 +1,4 @@
--- The layout that an argument of the command line names, and why it names none, where a layout may break the rule on where
+-- The layout that an argument of the command line names, and why it names none, if a layout may break the rule on where
 -- control turns.
 use Rattle.std.specs.Prelude.{◌≡◌, ◌≢◌, ◌⊎◌, ℕ, ◌+◌, List, codes, Option}
 use Rattle.cf_io.specs.Reads.{FilesSeen}
@@ -16,8 +16,8 @@ use Rattle.cli_files.specs.declared.status.Status.{Status}
 use Rattle.cli_files.specs.declared.status.Status.TheVariants as status
 use Rattle.cli_files.specs.declared.status.Which.TheVariants as which
 
--- the argument names this layout: the built-in one, or the one that is described by its file's first bytes, one more than a
--- layout may have
+-- the argument names this layout: the built-in one, or the one that is described by its file, of which up to one byte
+-- more than a layout may have is read
 abbrev pub IsLooseLayoutAt : NamedLayout → Option FilesSeen → Option FilesSeen → Plan → Type 0
 IsLooseLayoutAt plain before after plan = (plan ≡ built_in.plain) × (after ≡ before)
 IsLooseLayoutAt (in_file name) before after plan =
@@ -37,7 +37,7 @@ pub record RefusesLooseLayout (name : List ℕ) (before after : Option FilesSeen
   pub front : IsFrontOf (most_layout_bytes + 1) before after name file
   pub why : IsNoLooseLayout file answer report
 
--- why the argument names no such layout, the status that says so, and the report; the built-in layout is always there
+-- why the argument names no such layout, the status that says so, and the report; the built-in layout always exists
 abbrev pub LacksLooseLayout : NamedLayout → Option FilesSeen → Option FilesSeen → Status → List ℕ → Type 0
 LacksLooseLayout plain before after answer report = ⊥
 LacksLooseLayout (in_file name) before after answer report =

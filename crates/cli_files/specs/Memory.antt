@@ -1,4 +1,4 @@
--- What is answered where memory was refused.
+-- The answer if memory was refused.
 use Rattle.std.specs.Prelude.{◌≡◌, List, ℕ, codes}
 use Rattle.rv_machine.specs.Streams.{Streams}
 use Rattle.texts.specs.Lines.{line}
@@ -9,7 +9,7 @@ use Rattle.cli_files.specs.declared.status.Status.TheVariants as status
 abbrev pub SaysNoMemory : Status → List ℕ → Type 0
 SaysNoMemory answer report = (answer ≡ status.NoMemory) × (report ≡ line (codes "no memory"))
 
--- memory for the processor, or for what is kept beside it, was refused before its first move
+-- memory for the processor, or for data kept with it, was refused before its first move
 pub record LacksProcessor (before after : Streams) (answer : Status) (report : List ℕ) : Type 0 where
   pub status_is : answer ≡ status.NoMemory
   pub reports : report ≡ line (codes "no memory")

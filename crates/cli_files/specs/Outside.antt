@@ -1,4 +1,4 @@
--- The outside of the top call at one moment: what each part of it tells, and how often it has failed.
+-- The outside of the top call at one moment: what each part of it exposes, and how often it has failed.
 use Rattle.std.specs.Prelude.{ℕ, List, Option}
 use Rattle.cf_io.specs.Reads.{FilesSeen}
 use Rattle.cf_io.specs.declared.files.Files.{Ghosts as FilesMembers}
@@ -14,7 +14,7 @@ pub record Outside : Type 0 where
   pub input_faults : ℕ
   pub output_faults : ℕ
 
--- the report: what was written to it, where it tells that
+-- the report: what was written to it, if it exposes that
 pub record Report : Type 0 where
   pub written : Option (List ℕ)
   pub faults : ℕ
@@ -37,6 +37,6 @@ outside_seen of_files of_input of_output files input output =
 abbrev pub report_of : Option (List ℕ) → ℕ → Report
 report_of written faults = record { written = written; faults = faults }
 
--- what the sink exposes that the report is put to
+-- what the report's sink exposes
 abbrev pub report_in : {R : Type 0} → SinkMembers R → R → Report
 report_in of_report report = report_of (of_report.written report) (of_report.faults report)

@@ -11,14 +11,14 @@ use Rattle.cli_files.specs.declared.status.Status.{Status}
 use Rattle.cli_files.specs.declared.status.Status.TheVariants as status
 use Rattle.cli_files.specs.declared.status.Which.TheVariants as which
 
--- the file's first bytes, one more than a program may have, are a program, which begins on this hart
+-- the program came from a read of up to one byte more than a program may have, and begins on this hart
 pub record IsProgramAt (name : List ℕ) (before after : Option FilesSeen) (hart : Hart) : Type 0 where
   pub image : List ℕ
   pub front : IsFrontOf (most_bytes + 1) before after name image
   pub program : IsProgramFile image
   pub begins : hart ≡ hart_at_start image
 
--- the image is no program, and the status and the report say why; or it is one, and memory for it was refused
+-- the image is not a program, and the status and the report say why; or it is one, and memory for it was refused
 abbrev pub IsNoProgram : List ℕ → Status → List ℕ → Type 0
 IsNoProgram image answer report =
     ((error : ProgramErr) × IsRefused image error × (answer ≡ status.BadProgram error)

@@ -1,4 +1,4 @@
--- The files that `run` reads, one after another: the layout's, the program's and, where a script gives the moves, the script's.
+-- The files that `run` reads, in turn: the layout's, the program's and, if a script gives the moves, the script's.
 use Rattle.std.specs.Prelude.{◌≡◌, ◌⊎◌, ℕ, List, Option}
 use Rattle.run_options.specs.declared.reporting.Reporting.{Reporting}
 use Rattle.cf_io.specs.Reads.{FilesSeen}
@@ -14,8 +14,8 @@ use Rattle.cli_files.specs.Outside.{Outside}
 use Rattle.cli_files.specs.Schedules.{ReadySchedule, IsScheduled, LacksSchedule}
 use Rattle.cli_files.specs.declared.status.Status.{Status}
 
--- what the arguments ask of `run`: where the layout is, the file with the program, what chooses the moves, the number of
--- retired instructions at which the run stops, and what it writes to the report
+-- what the arguments ask of `run`: where the layout is, the file with the program, what chooses the moves, the number
+-- of retired instructions at which the run stops, and what it writes to the report
 pub record RunAsked : Type 0 where
   pub layout : NamedLayout
   pub program : List ℕ
@@ -32,19 +32,19 @@ run_asked layout program schedule limit reporting = record {
   reporting = reporting;
 }
 
--- the same by what contracts see of the arguments
+-- the same, from the arguments as contracts see them
 abbrev pub run_asked_by : LayoutArgument → List ℕ → RunOptions → RunAsked
 run_asked_by layout program options =
     run_asked (layout_of layout) program (schedule_view options.schedule) options.limit options.reporting
 
--- all are there: after layout and program this schedule was read
+-- all were found: after layout and program this schedule was read
 pub record RunFilesRead (asked : RunAsked) (before after : Option FilesSeen) (plan : Plan) (hart : Hart)
     (schedule : ReadySchedule) : Type 0 where
   pub between : Option FilesSeen
   pub loaded : IsLoaded asked.layout asked.program before between plan hart
   pub scheduled : IsScheduled asked.schedule between after schedule
 
--- the layout and the program are there, and the script's file gives no script
+-- the layout and the program were found, and the script's file gives no script
 pub record StopsAtScript (asked : RunAsked) (before after : Option FilesSeen) (answer : Status)
     (report : List ℕ) : Type 0 where
   pub plan : Plan
@@ -53,13 +53,13 @@ pub record StopsAtScript (asked : RunAsked) (before after : Option FilesSeen) (a
   pub loaded : IsLoaded asked.layout asked.program before between plan hart
   pub lacks : LacksSchedule asked.schedule between after answer report
 
--- the first of them that is not there, the status that says why, and the report
+-- the first of them that is missing, the status that says why, and the report
 abbrev pub LacksRunFile : RunAsked → Option FilesSeen → Option FilesSeen → Status → List ℕ → Type 0
 LacksRunFile asked before after answer report =
     LacksLoaded asked.layout asked.program before after answer report
     ⊎ StopsAtScript asked before after answer report
 
--- all files are there, and this comes of them
+-- all files were found, and this is the outcome
 pub record ReadsRunFiles (Comes : Plan → Hart → ReadySchedule → Type 0) (asked : RunAsked)
     (before after : Outside) : Type 0 where
   pub plan : Plan
@@ -68,7 +68,7 @@ pub record ReadsRunFiles (Comes : Plan → Hart → ReadySchedule → Type 0) (a
   pub ready : RunFilesRead asked before.files after.files plan hart schedule
   pub comes : Comes plan hart schedule
 
--- one of them is missing, and the streams were left alone
+-- one of them is missing, and the streams were left unchanged
 pub record RefusesRun (asked : RunAsked) (before after : Outside) (answer : Status)
     (report : List ℕ) : Type 0 where
   pub lacks : LacksRunFile asked before.files after.files answer report

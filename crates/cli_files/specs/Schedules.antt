@@ -9,14 +9,14 @@ use Rattle.cli_files.specs.declared.status.Status.{Status}
 use Rattle.cli_files.specs.declared.schedules.ReadySchedule as rust
 use Rattle.cli_files.specs.declared.schedules.ReadySchedule.TheVariants as schedules
 
--- the text of a script, a seed from which the moves are drawn, or the fixed rule; the latter two of the moves that a guess
--- rule keeps
+-- the text of a script, a seed from which the moves are drawn, or the fixed rule; with the latter two, only moves that
+-- a guess rule keeps
 pub data ReadySchedule : Type 0 where
   in_script : (text : List ℕ) → ReadySchedule
   drawn_from : (seed : ℕ) → GuessRule → ReadySchedule
   in_turn : GuessRule → ReadySchedule
 
--- what becomes of the schedule that the arguments ask for: a script's file is read, and where there is no script, no file is
+-- the schedule that the arguments ask for, with a script's file read; if there is no script, no file is read
 abbrev pub IsScheduled : Schedule → Option FilesSeen → Option FilesSeen → ReadySchedule → Type 0
 IsScheduled (by_script file) before after (in_script text) = IsScriptAt file before after text
 IsScheduled (by_script file) before after (drawn_from seed rule) = ⊥
@@ -37,7 +37,7 @@ pub record LacksSchedule (schedule : Schedule) (before after : Option FilesSeen)
   pub asks : schedule ≡ by_script file
   pub lacks : LacksScript file before after answer report
 
--- what contracts see of it
+-- the schedule as contracts see it
 abbrev pub ready_schedule_view : rust.ReadySchedule → ReadySchedule
 ready_schedule_view (schedules.Script text) = in_script (vec_items text)
 ready_schedule_view (schedules.Seed seed rule) = drawn_from seed rule

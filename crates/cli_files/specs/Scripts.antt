@@ -9,12 +9,12 @@ use Rattle.cli_files.specs.declared.status.Status.{Status}
 use Rattle.cli_files.specs.declared.status.Status.TheVariants as status
 use Rattle.cli_files.specs.declared.status.Which.TheVariants as which
 
--- the file's first bytes, one more than a script may have, are not too many, and are this text
+-- this text came from a read of up to one byte more than a script may have, and is not too long
 pub record IsScriptAt (name : List ℕ) (before after : Option FilesSeen) (text : List ℕ) : Type 0 where
   pub front : IsFrontOf (most_script + 1) before after name text
   pub fits : length text ≤ most_script
 
--- they are too many
+-- the text is too long
 pub record ScriptTooLong (name : List ℕ) (before after : Option FilesSeen) (answer : Status)
     (report : List ℕ) : Type 0 where
   pub text : List ℕ

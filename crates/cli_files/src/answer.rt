@@ -11,14 +11,14 @@ use crate::status::{Status, Which};
 use report_refusals::{ProgramErr, bad_program};
 use texts::Page;
 
-/// The status of a command, and the lines that close its report.
+/// The status of a command, and the closing lines of its report.
 #[derive(Drop)]
 pub struct Answer {
     pub status: Status,
     pub closing: Page,
 }
 
-/// The answer of a command that was carried out and has nothing more to tell.
+/// The answer of a command that was carried out and has nothing more to report.
 pub fn done() -> Answer
     ensures status { result.status ≡ Carried }
     ensures closing { result.closing ≡ [] }
@@ -29,7 +29,7 @@ pub fn done() -> Answer
     }
 }
 
-/// The answer where memory was refused.
+/// The answer if memory was refused.
 pub fn no_memory() -> Answer
     ensures status { result.status ≡ Refused }
     ensures closing { result.closing ≡ line_of (codes "no memory") }
@@ -55,7 +55,7 @@ fn unread_page(which: Which) -> Page
     }
 }
 
-/// The answer where this could not be read.
+/// The answer if this could not be read.
 pub fn unread(which: Which) -> Answer
     ensures status { result.status ≡ ReadFault which }
     ensures closing { result.closing ≡ unread_line which }
@@ -66,7 +66,7 @@ pub fn unread(which: Which) -> Answer
     }
 }
 
-/// The answer where the output failed.
+/// The answer if the output failed.
 pub fn write_fault() -> Answer
     ensures status { result.status ≡ WriteFault }
     ensures closing { result.closing ≡ line_of (codes "write fault output") }
@@ -77,7 +77,7 @@ pub fn write_fault() -> Answer
     }
 }
 
-/// The answer where a file is no program.
+/// The answer if a file is not a program.
 pub fn no_program(error: ProgramErr) -> Answer
     ensures status { result.status ≡ BadProgram error }
     ensures closing { result.closing ≡ bad_program_text error }

@@ -33,7 +33,7 @@ pub struct ProgramImages {
     pub machine: Machine,
 }
 
-/// The memory that parts of the file make which are accepted: nothing but memory can be refused for it.
+/// The memory that is made from accepted parts of the file. It can be refused only for lack of memory.
 #[tactic(auto, using(crate::proofs::LoadedAgain::accepted_parts))]
 fn load(alloc: Global, file: &[u8], parts: &[Part]) -> Result<Image, AllocError>
     requires lie { All (LiesIn file.now) parts.now }
@@ -91,7 +91,7 @@ fn memory_of(machine: Machine) -> Regions
     machine.into_parts().mem
 }
 
-/// The machine that a program file starts, with its memory twice more.
+/// The machine that a program file starts, and its memory twice more.
 fn load_twice_more(
     alloc: Global,
     file: &[u8],
@@ -112,7 +112,7 @@ fn load_twice_more(
     })
 }
 
-/// The images of a program file, or the answer where it is no program.
+/// The images of a program file, or the answer if it is not a program.
 fn open_images(alloc: Global, file: &[u8]) -> Result<ProgramImages, Answer>
     ensures program { IfOk result (λ images. IsProgramFile file.now) }
     ensures machine { IfOk result (λ images. images.machine ≡ hart_at_start file.now) }
@@ -131,7 +131,7 @@ fn open_images(alloc: Global, file: &[u8]) -> Result<ProgramImages, Answer>
     }
 }
 
-/// The images of the program in the file of this name, or the answer where it gives none.
+/// The images of the program in the file of this name, or the answer if it gives none.
 pub(crate) fn images_at<F: Files>(
     alloc: Global,
     name: &str,

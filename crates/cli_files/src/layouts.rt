@@ -16,10 +16,10 @@ use layout_file::{FileErr, MOST_LAYOUT, read_layout};
 use report_refusals::bad_layout;
 use std::alloc::Global;
 
-/// The greatest length of a layout file, in bytes.
+/// The maximum length of a layout file, in bytes.
 const MOST_BYTES: u64 = MOST_LAYOUT as u64;
 
-/// The layout that a file of this content describes, or the answer where it describes none.
+/// The layout that a file of this content describes, or the answer if it describes none.
 fn read_content(alloc: Global, file: &[u8]) -> Result<Layout, Answer>
     ensures ok { IfOk result (λ layout. Describes file.now layout) }
     ensures refused { IfErr result (λ answer. IsNoLayout file.now answer.status answer.closing) }
@@ -35,7 +35,7 @@ fn read_content(alloc: Global, file: &[u8]) -> Result<Layout, Answer>
     }
 }
 
-/// The layout in the file of this name, or the answer where it gives none.
+/// The layout in the file of this name, or the answer if it gives none.
 fn read_file<F: Files>(alloc: Global, name: &str, files: &mut F) -> Result<Layout, Answer>
     ensures { ReadsFiles (IsLayoutAt (in_file name.now)) (LacksLayout (in_file name.now)) F.Files files.old files.new result }
 {
@@ -46,7 +46,7 @@ fn read_file<F: Files>(alloc: Global, name: &str, files: &mut F) -> Result<Layou
     }
 }
 
-/// The layout that the argument names, or the answer where it names none.
+/// The layout that the argument names, or the answer if it names none.
 pub fn layout_at<F: Files>(
     alloc: Global,
     argument: LayoutArgument<'_>,

@@ -1,5 +1,5 @@
-//! The files that the arguments of the command line name: what each of them holds, and what is answered where one is not there
-//! or is refused.
+//! The files that the arguments of the command line name: what each of them holds, and the answer if one is missing or
+//! is refused.
 #![tactic(auto)]
 
 mod answer;

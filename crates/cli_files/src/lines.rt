@@ -5,7 +5,7 @@ ghost use Rattle.texts.specs.Lines.{line as line_of, counted_line};
 
 use texts::Page;
 
-/// The report of unrecognised arguments: the index of the first that no command takes there.
+/// The report of unrecognised arguments: the index of the first unexpected one.
 pub fn bad_words(index: u32) -> Page
     ensures { result ≡ counted_line (codes "bad words at ") index }
 {

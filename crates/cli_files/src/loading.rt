@@ -23,7 +23,7 @@ pub struct Loaded {
     pub machine: Machine,
 }
 
-/// Reads the layout and then the program; or gives the answer of the first that is not there.
+/// Reads the layout and then the program; or returns the answer of the first that is missing.
 pub fn load<F: Files>(
     alloc: Global,
     layout: LayoutArgument<'_>,
@@ -58,7 +58,8 @@ pub struct LooseImages {
     pub images: ProgramImages,
 }
 
-/// Reads the layout and then the program, which is loaded three times; or gives the answer of the first that is not there.
+/// Reads the layout and then the program, which is loaded three times; or returns the answer of the first that is
+/// missing.
 pub fn load_images<F: Files>(
     alloc: Global,
     layout: LayoutArgument<'_>,
@@ -81,7 +82,7 @@ pub fn load_images<F: Files>(
     }
 }
 
-/// The same, where the layout may break the rule on where control turns.
+/// The same, if the layout may break the rule on where control turns.
 pub fn load_images_loosely<F: Files>(
     alloc: Global,
     layout: LayoutArgument<'_>,

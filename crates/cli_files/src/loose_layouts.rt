@@ -1,4 +1,4 @@
-//! The layouts that arguments of the command line name, where a layout may break the rule on where control turns.
+//! The layouts that arguments of the command line name, if a layout may break the rule on where control turns.
 
 ghost use Rattle.std.specs.Prelude.{IfOk, IfErr};
 ghost use Rattle.cli_arguments.specs.Arguments.{in_file};
@@ -16,10 +16,10 @@ use layout_file::{FileErr, MOST_LAYOUT, read_layout_loosely};
 use report_refusals::bad_layout;
 use std::alloc::Global;
 
-/// The greatest length of a layout file, in bytes.
+/// The maximum length of a layout file, in bytes.
 const MOST_BYTES: u64 = MOST_LAYOUT as u64;
 
-/// The layout that a file of this content describes, or the answer where it describes none.
+/// The layout that a file of this content describes, or the answer if it describes none.
 fn read_loosely(alloc: Global, file: &[u8]) -> Result<LooseLayout, Answer>
     ensures ok { IfOk result (λ layout. DescribesLoosely file.now layout) }
     ensures refused { IfErr result (λ answer. IsNoLooseLayout file.now answer.status answer.closing) }
@@ -35,7 +35,7 @@ fn read_loosely(alloc: Global, file: &[u8]) -> Result<LooseLayout, Answer>
     }
 }
 
-/// The layout in the file of this name, or the answer where it gives none.
+/// The layout in the file of this name, or the answer if it gives none.
 fn read_loose_file<F: Files>(
     alloc: Global,
     name: &str,
@@ -50,8 +50,8 @@ fn read_loose_file<F: Files>(
     }
 }
 
-/// The layout that the argument names, or the answer where it names none; a layout that breaks no rule but the one on where
-/// control turns is one here.
+/// The layout that the argument names, or the answer if it names none; a layout may break the rule on where control
+/// turns, but no other.
 pub fn loose_layout_at<F: Files>(
     alloc: Global,
     argument: LayoutArgument<'_>,

@@ -16,12 +16,12 @@ use report_refusals::ProgramErr;
 use rv_machine::Machine;
 use std::alloc::{AllocError, Global};
 
-/// The greatest length of a program file, in bytes.
+/// The maximum length of a program file, in bytes.
 pub const MOST_BYTES: u64 = 33_554_432;
 
 /// Why a program file was not opened.
 pub enum OpenErr {
-    /// It is no program.
+    /// It is not a program.
     Refused(ProgramErr),
 
     /// There was no memory for it.
@@ -89,9 +89,9 @@ fn open_elf(alloc: Global, image: &[u8]) -> Result<Machine, OpenErr>
     }
 }
 
-/// The machine that a program file starts. A file that begins as an ELF file is one: its segments that take room in
-/// memory are loaded, and the machine begins at its entry. Any other file is a flat image, in one region that may be
-/// read, written and executed, and begins there. The stack comes after them.
+/// The machine that a program file starts. A file that begins as an ELF file is one: its segments that take up memory
+/// are loaded, and the machine begins at its entry. Any other file is a flat image, in one region that may be read,
+/// written and executed, and begins there. The stack comes after them.
 #[tactic(auto, unfolding(crate::specs::Image::hart_at_start))]
 pub fn open(alloc: Global, image: &[u8]) -> Result<Machine, OpenErr>
     ensures program { IfOk result (λ machine. IsProgramFile image.now) }
@@ -109,7 +109,8 @@ pub fn open(alloc: Global, image: &[u8]) -> Result<Machine, OpenErr>
     }
 }
 
-/// The machine that a file starts that was opened before, and so is a program: nothing but memory can be refused for it.
+/// The machine that a file starts. The file was opened before, so it is a program, and can be refused only for lack of
+/// memory.
 pub fn open_again(alloc: Global, image: &[u8]) -> Result<Machine, AllocError>
     requires { IsProgramFile image.now }
     ensures machine { IfOk result (λ machine. machine ≡ hart_at_start image.now) }

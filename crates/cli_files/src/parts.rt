@@ -7,7 +7,7 @@ ghost use Rattle.cli_files.specs.Image.{part_of as part_for, takes_room as has_r
 use elf_view::{Elf, Segment};
 use mem_regions::Part;
 
-/// The greatest number of parts, the stack among them.
+/// The maximum number of parts, including the stack.
 pub const MOST_PARTS: u32 = 16;
 
 /// A stack of 1 MiB, zeroed.
@@ -20,7 +20,7 @@ pub const STACK: Part = Part {
     exec: false,
 };
 
-/// Where a flat image stands, and where it is entered.
+/// The address of a flat image, and its entry.
 pub const FLAT_BASE: u32 = 0x1_0000;
 
 /// The part that a flat image of this size makes.
@@ -51,14 +51,14 @@ fn part_of(segment: &Segment) -> Part
     }
 }
 
-/// Whether a segment takes room in memory.
+/// Whether a segment takes up memory.
 fn takes_room(segment: &Segment) -> bool
     ensures { result ≡ has_room (shown_segment segment.now) }
 {
     segment.memsz > 0
 }
 
-/// The number of parts of an ELF file, or the greatest number of 32 bits where it has more.
+/// The number of parts of an ELF file, or the largest u32 if it has more.
 #[tactic(auto, unfolding(crate::specs::Image::elf_parts))]
 pub fn count_parts(elf: &Elf) -> u32
     ensures { result ≡ min (length (elf_parts elf.now)) (2 ^ 32 - 1) }
@@ -73,7 +73,7 @@ pub fn count_parts(elf: &Elf) -> u32
     count
 }
 
-/// The parts of an ELF file, and their number: those of its segments that take room, then the stack.
+/// The parts of an ELF file, and their number: those of its segments that take up memory, then the stack.
 #[tactic(auto, unfolding(crate::specs::Image::elf_parts))]
 pub fn parts_of(elf: &Elf) -> ([Part; 16], usize)
     requires { length (elf_parts elf.now) ≤ 16 }

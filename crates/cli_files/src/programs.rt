@@ -12,7 +12,7 @@ use cf_io::{Files, FilesErr};
 use rv_machine::Machine;
 use std::alloc::Global;
 
-/// The machine that a program file starts, or the answer where it starts none.
+/// The machine that a program file starts, or the answer if it starts none.
 pub fn open_image(alloc: Global, image: &[u8]) -> Result<Machine, Answer>
     ensures program { IfOk result (λ machine. IsProgramFile image.now) }
     ensures machine { IfOk result (λ machine. machine ≡ hart_at_start image.now) }
@@ -26,7 +26,7 @@ pub fn open_image(alloc: Global, image: &[u8]) -> Result<Machine, Answer>
     }
 }
 
-/// The machine that the program in the file of this name starts, or the answer where it gives none.
+/// The machine that the program in the file of this name starts, or the answer if it gives none.
 pub fn program_at<F: Files>(alloc: Global, name: &str, files: &mut F) -> Result<Machine, Answer>
     ensures reads { ReadsFiles (IsProgramAt name.now) (LacksProgram name.now) F.Files files.old files.new result }
     ensures count { IfOk result (λ machine. machine.retired ≡ 0) }

@@ -22,8 +22,8 @@ pub struct ReadyRun {
     pub schedule: ReadySchedule,
 }
 
-/// Reads the layout, the program and the script, where the arguments name one, in this order; or gives the answer of the first
-/// that is not there.
+/// Reads the layout, the program and, if the arguments name one, the script, in this order; or returns the answer of
+/// the first that is missing.
 pub fn read_files<F: Files>(
     alloc: Global,
     layout: LayoutArgument<'_>,

@@ -16,13 +16,13 @@ use std::alloc::Global;
 pub enum ReadySchedule {
     /// The script of this text.
     Script(Vec<u8>),
-    /// They are drawn from this seed, of those that the guess rule keeps.
+    /// They are drawn from this seed, among those that the guess rule keeps.
     Seed(u32, GuessRule),
-    /// The fixed rule, of those that the guess rule keeps.
+    /// The fixed rule, among those that the guess rule keeps.
     Rule(GuessRule),
 }
 
-/// Reads the script, where the arguments ask for one in a file; or gives the answer where that file holds none.
+/// Reads the script, if the arguments ask for one in a file; or returns the answer if that file holds none.
 pub fn schedule_at<F: Files>(
     alloc: Global,
     schedule: Schedule<'_>,

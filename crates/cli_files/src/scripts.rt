@@ -12,10 +12,10 @@ use report_refusals::ScriptFault;
 use run_scripts::MOST_SCRIPT;
 use std::alloc::Global;
 
-/// The greatest length of a script, in bytes.
+/// The maximum length of a script, in bytes.
 const MOST_BYTES: u64 = MOST_SCRIPT as u64;
 
-/// The text of the script in the file of this name, or the answer where it gives none.
+/// The text of the script in the file of this name, or the answer if it gives none.
 pub fn script_at<F: Files>(alloc: Global, name: &str, files: &mut F) -> Result<Vec<u8>, Answer>
     ensures { ReadsFiles (λ before after text. IsScriptAt name.now before after (vec_items text)) (LacksScript name.now) F.Files files.old files.new result }
 {

@@ -38,16 +38,16 @@ pub enum Status {
     /// The command was carried out, and its status is not that of a run.
     Done,
 
-    /// The arguments are not those of any command: the index of the first that has no place.
+    /// The arguments are not those of any command: the index of the first unexpected one.
     BadWords(u32),
 
-    /// The file is no layout.
+    /// The file is not a layout.
     BadLayout(FileErr),
 
-    /// The file is no program.
+    /// The file is not a program.
     BadProgram(ProgramErr),
 
-    /// The file is no script, or a line of it that was reached is no move.
+    /// The file is not a script, or a line of it that was reached is not a move.
     BadScript(ScriptFault),
 
     /// The move of this line of the script could not be made: the bar is the first of its row in the table of moves.
@@ -65,7 +65,7 @@ pub enum Status {
     /// The file is too long for the input of a program.
     BadInput,
 
-    /// A line of the log is refused, or says what is not so.
+    /// A line of the log is refused, or says something that is not true.
     BadLog(LogErr),
 
     /// The log had ended after this many moves, and the program had not.
@@ -90,8 +90,8 @@ pub enum Status {
 impl Status {
     ghost use Rattle.cli_files.specs.Codes.{exit_code};
 
-    /// The status that the process ends with: a program's own, 0 at a script's end or after a command that was carried out
-    /// and has no other, or a number from 120 on.
+    /// The status that the process ends with: a program's own, 0 at a script's end or after a command that was carried
+    /// out and has no other, or a number from 120 on.
     pub fn code(&self) -> u8
         ensures { result ≡ exit_code self.now }
     {

@@ -1,4 +1,4 @@
--- What comes of a program that was drawn and run.
+-- The outcome of a program that was drawn and run.
 use Rattle.std.proofs.Common.{◌≡◌, ℕ, List, [], Option, Ok, Result, Err, sym, subst, inl, inr}
 use Rattle.run_options.specs.Reportings as show
 use Rattle.run_options.specs.declared.guess_rule.GuessRule.TheVariants as rules
@@ -19,7 +19,7 @@ use Rattle.cli_reports.specs.declared.reporting.Reported.{Reported}
 use Rattle.cli_run.specs.declared.tail.Tail.TheVariants.{Nothing}
 use Rattle.cli_reports.proofs.PutReports.{shows-none}
 
--- what comes of the run is the outcome of `gen` with `--run`, which reads no file
+-- the outcome of the run is that of `gen` with `--run`, which reads no file
 pub drawn-comes : (number : ℕ) (plan : Plan) (hart : Hart) (before after : Streams) (blank full : Report)
     (result : Result Reported Failed) → plan ≡ plain → StartsDrawn number hart →
     Comes (ComesOf default_limit show.report Nothing plan hart (drawn_from number rules.Any) before after blank.written)
@@ -33,7 +33,7 @@ drawn-comes number plan hart before after blank full (Ok reported) same starts (
 drawn-comes number plan hart before after blank full (Err failed) same starts (breaks, rose) =
     (record { hart = hart; starts = starts; breaks = rw same at breaks }, rose)
 
--- or its text was no program
+-- or its text was not a program
 pub drawn-refused : (number : ℕ) (before after : Streams) (told : Option (List ℕ)) (blank full : Report)
     (answer : Status) (text : List ℕ) (reported : Reported) → reported.status ≡ answer →
     RefusesDrawn before after answer text → PutsReport blank full text reported.put →

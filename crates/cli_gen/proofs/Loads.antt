@@ -1,4 +1,4 @@
--- Whatever the assembler makes is a program that can be loaded, so it is refused for no reason.
+-- Whatever the assembler makes is a program that can be loaded, so it is never refused.
 use Rattle.std.proofs.Common.{◌≡◌, ℕ, ◌+◌, ◌^◌, ◌≤◌, Bool, true, false, List, [], ◌∷◌, ◌++◌, length, refl, ◌∙◌, ap, subst, arith, Option, Some, None, Ok, Err, inl, inr}
 use Rattle.std.specs.Prelude.{Result, nat_lt}
 use Rattle.std.proofs.lemmas.Bool.Decides.{nat_tests}
@@ -37,7 +37,7 @@ small_by source object false e h =
     let stands : Objects object (sections_of (text_lines source)) = rw e at h in
     small-result source (Ok object) short stands
 
--- what a source stands for is small
+-- the object that a source describes is small
 small : (source : List ℕ) (object : Object) → Objects object (assembled source) → IsSmallObject object
 small source object h = small_by source object (nat_lt 1048576 (length source)) refl h
 
@@ -52,7 +52,7 @@ begins_so : (o : Object) → starts_with_elf (elf_file o) ≡ true
 unfolding elf_file front identity
 begins_so o = refl
 
--- the text, the data and the stack, apart from each other
+-- the text, the data and the stack do not overlap
 apart : (p q : Part) → p.base + p.size ≤ q.base → overlaps p q ≡ false
 apart p q h = grind (arith, nat_tests)
 
@@ -137,7 +137,7 @@ lacks_file source file answer report a (inl (error, refused, status_is, report_i
     absurd (unrefused source file error a refused)
 lacks_file source file answer report a (inr h) = h.1
 
--- where no hart begins, memory was refused
+-- if no hart begins, memory was refused
 pub assembly_lacks : (source file image : List ℕ) (answer : Status) (report : List ℕ) → IsAssembly source file → image ≡ file
     → IsNoProgram image answer report → SaysNoMemory answer report
 assembly_lacks source file image answer report a same h =
@@ -153,7 +153,7 @@ lacks_text number answer report most (inl (error, refused, status_is, report_is)
     absurd (none-refused (assembled (program_text number)) accepted.sections error accepted.stands refused)
 lacks_text number answer report most (inr h) = h
 
--- and where no file comes of a drawn program, memory was refused
+-- and if no file comes from a drawn program, memory was refused
 pub drawn_lacks : (number : ℕ) (source : List ℕ) (answer : Status) (report : List ℕ) → number ≤ 30000 → source ≡ program_text number
     → IsUnassembled source answer report → SaysNoMemory answer report
 drawn_lacks number source answer report most same h =

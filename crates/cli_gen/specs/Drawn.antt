@@ -1,4 +1,4 @@
--- What the command `gen` with `--run` answers, and what it leaves of the streams.
+-- The answer of the command `gen` with `--run`, and its effect on the streams.
 use Rattle.std.specs.Prelude.{◌≡◌, ◌⊎◌, ℕ, List, ◌++◌, Option}
 use Rattle.run_options.specs.Reportings as show
 use Rattle.rv_machine.specs.Hart.{Hart}
@@ -16,7 +16,8 @@ use Rattle.cli_asm.specs.Sources.{IsAssembly}
 use Rattle.cli_files.specs.declared.status.Status.{Status}
 use Rattle.cli_run.specs.declared.tail.Tail.TheVariants.{Nothing}
 
--- the hart on which the program begins: its text is assembled to a file, the file is a program, and the hart is that file opened
+-- the hart on which the program begins: its text is assembled to a file, the file is a program, and the hart is that of
+-- the file
 pub record StartsDrawn (number : ℕ) (hart : Hart) : Type 0 where
   pub file : List ℕ
   pub assembly : IsAssembly (program_text number) file
@@ -31,12 +32,12 @@ pub record RunsDrawn (number : ℕ) (before after : Streams) (blank : Option (Li
   pub comes : ComesOf default_limit show.report Nothing plain hart (drawn_from number rules.Any) before after blank answer shown closing
 
 -- it was not run, since memory was refused; the assembler and the loader accept each drawn program. The streams were
--- left alone
+-- left unchanged
 pub record RefusesDrawn (before after : Streams) (answer : Status) (report : List ℕ) : Type 0 where
   pub lacks : SaysNoMemory answer report
   pub streams : after ≡ before
 
--- the answer of `gen` with `--run` and its report, after what the report told before
+-- the answer of `gen` with `--run` and its report, after the report's text so far
 abbrev pub AnswersDrawn : ℕ → Streams → Streams → Option (List ℕ) → Status → (shown closing : List ℕ) → Type 0
 AnswersDrawn number before after blank answer shown closing =
     RunsDrawn number before after blank answer shown closing

@@ -24,7 +24,7 @@ use std::alloc::Global;
 /// The room for the text of a program: as much as a source may have.
 const MOST_TEXT: usize = 1_048_576;
 
-/// Carries out `gen` without `--run`: puts the text of the program that is drawn from a number to the output.
+/// Carries out `gen` without `--run`: writes the text of the program that is drawn from a number to the output.
 pub fn put_drawn<K: Sink>(number: u32, output: &mut K) -> Answer
     requires some { 1 ≤ number }
     requires limit { number ≤ most_statements }
@@ -36,7 +36,7 @@ pub fn put_drawn<K: Sink>(number: u32, output: &mut K) -> Answer
     }
 }
 
-/// An empty buffer with room for the text of each program, or the answer where there is no memory for it.
+/// An empty buffer with room for the text of each program, or the answer if there is no memory for it.
 #[tactic(auto, using(asm_drawn::proofs::Programs::accepting))]
 fn room_for_text(alloc: Global) -> Result<MemSink, Answer>
     ensures empty { IfOk result (λ sink. sink.written ≡ []) }
@@ -49,7 +49,7 @@ fn room_for_text(alloc: Global) -> Result<MemSink, Answer>
     }
 }
 
-/// The text of that program, or the answer where there is no memory for it.
+/// The text of that program, or the answer if there is no memory for it.
 fn drawn_text(alloc: Global, number: u32) -> Result<MemSink, Answer>
     requires some { 1 ≤ number }
     requires limit { number ≤ most_statements }
@@ -66,7 +66,7 @@ fn drawn_text(alloc: Global, number: u32) -> Result<MemSink, Answer>
     }
 }
 
-/// The machine that the program starts, or the answer where there is no memory for it.
+/// The machine that the program starts, or the answer if there is no memory for it.
 fn drawn_machine(alloc: Global, number: u32) -> Result<Machine, Answer>
     requires some { 1 ≤ number }
     requires limit { number ≤ most_statements }
@@ -88,8 +88,9 @@ fn drawn_machine(alloc: Global, number: u32) -> Result<Machine, Answer>
     }
 }
 
-/// Carries out `gen` with `--run`: assembles the text, runs it on the built-in layout by moves that are drawn from the same
-/// number, and puts what `run` puts. It fails where the report fails during the run; nothing more is then put to the report.
+/// Carries out `gen` with `--run`: assembles the text, runs it on the built-in layout by moves that are drawn from the
+/// same number, and writes what `run` writes. It fails if the report fails during the run; then nothing more is written
+/// to the report.
 pub fn run_drawn<S: Source, K: Sink, R: ReportSink>(
     alloc: Global,
     number: u32,

@@ -1,4 +1,5 @@
-//! The command `gen`: the text of a program that is drawn from a number is put to the output, or is assembled and run.
+//! The command `gen`: the text of a program that is drawn from a number is written to the output, or is assembled and
+//! run.
 #![tactic(auto)]
 
 mod drawn;

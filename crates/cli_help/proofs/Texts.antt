@@ -1,4 +1,4 @@
--- Each text begins as the grammar wants it.
+-- Each text begins as the grammar requires.
 use Rattle.std.proofs.Common.{◌≡◌, true, refl}
 use Rattle.cli_arguments.specs.declared.names.CommandName.{CommandName}
 use Rattle.cli_arguments.specs.declared.names.CommandName.TheVariants as names

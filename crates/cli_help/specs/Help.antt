@@ -9,7 +9,7 @@ use Rattle.cli_arguments.specs.Commands.{command_name}
 use Rattle.cli_arguments.specs.Options.{option_name, takes_key}
 use Rattle.texts.specs.Lines.{line}
 
--- what follows the command's name: its positional arguments, and options where it has some that it does not need
+-- what follows the command's name: its positional arguments, and options if it has optional ones
 abbrev pub operands : CommandName → List ℕ
 operands names.Machine = codes "PROGRAM [OPTION ..]"
 operands names.Run = codes "LAYOUT PROGRAM [OPTION ..]"

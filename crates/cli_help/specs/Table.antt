@@ -17,7 +17,7 @@ use Rattle.cli_help.specs.declared.pages.list.TheConstants.{HELP_ON_LIST}
 use Rattle.cli_help.specs.declared.pages.drawn.TheConstants.{HELP_ON_GEN}
 use Rattle.cli_help.specs.declared.pages.help.TheConstants.{HELP_ON_HELP}
 
--- the text of each command; those that are written as options have that of `help`
+-- the text of each command; commands that are written as options have that of `help`
 unfoldable pub help_text : CommandName → List ℕ
 help_text names.Machine = HELP_ON_MACHINE.now
 help_text names.Run = HELP_ON_RUN.now

@@ -8,7 +8,7 @@ ghost use Rattle.cli_help.specs.Table.{help_text};
 use crate::pages;
 use cli_arguments::CommandName;
 
-/// The table: those that are written as options have the text of `help`.
+/// The table: commands that are written as options have the text of `help`.
 #[tactic(auto, unfolding(crate::specs::Table::help_text))]
 fn text_of(name: CommandName) -> &'static [u8]
     ensures { result.now ≡ help_text name }
@@ -33,8 +33,8 @@ fn text_of(name: CommandName) -> &'static [u8]
     }
 }
 
-/// What `help` writes of a command: the text is as the grammar of the command line wants it, where there is help on the
-/// command.
+/// What `help` writes about a command: if there is help on the command, the text is as the grammar of the command line
+/// requires.
 pub fn help_on(name: CommandName) -> &'static [u8]
     ensures text { result.now ≡ help_text name }
     ensures about { has_help name ≡ true → IsHelp name result.now }

@@ -1,4 +1,4 @@
--- What the command `list` answers, and what it leaves of the outside.
+-- The answer of the command `list`, and its effect on the outside.
 use Rattle.std.specs.Prelude.{◌≡◌, ◌⊎◌, ℕ, ◌+◌, ◌<◌, ◌≤◌, true, List, length, codes, Option, Some, if◌then◌else◌}
 use Rattle.elf_view.specs.Executables.{IsElf}
 use Rattle.elf_view.specs.Refusal.{starts_with_elf, file_refusal}
@@ -33,7 +33,7 @@ IsUnlistable image (program.Elf error) =
     × (file_refusal image ≡ Some error)
 IsUnlistable image (program.Load error) = ⊥
 
--- what holds of an image and of the output where the listing was not put
+-- what is true of an image and of the output if the listing was not written
 abbrev pub IsNotListed : List ℕ → Option (List ℕ) → Option (List ℕ) → ListErr → Type 0
 IsNotListed image before after (err.Refused error) =
     IsUnlistable image error × (after ≡ before)

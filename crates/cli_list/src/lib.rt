@@ -1,4 +1,4 @@
-//! The command `list`: the listing of a program is put to the output.
+//! The command `list`: the listing of a program is written to the output.
 #![tactic(auto)]
 
 mod listing;

@@ -17,17 +17,17 @@ use std::alloc::Global;
 
 /// Why a listing was not put.
 pub enum ListErr {
-    /// The file is no program.
+    /// The file is not a program.
     Refused(ProgramErr),
 
-    /// There was no memory for it. Nothing was put.
+    /// There was no memory for it. Nothing was written.
     NoMemory,
 
     /// The output failed.
     Failed,
 }
 
-/// Puts the listing of a program file.
+/// Writes the listing of a program file.
 #[tactic(auto, unfolding(crate::specs::Listings::listing_of))]
 fn put_listing<K: Sink>(alloc: Global, image: &[u8], output: &mut K) -> Result<(), ListErr>
     ensures listable { OnOk result (IsListable image.now) }
@@ -67,7 +67,7 @@ fn list_image<K: Sink>(alloc: Global, image: &[u8], output: &mut K) -> Answer
     }
 }
 
-/// Carries out `list`: reads the program's file and puts its listing to the output.
+/// Carries out `list`: reads the program's file and writes its listing to the output.
 pub fn list_program<F: Files, K: Sink>(
     alloc: Global,
     program: &str,

@@ -1,4 +1,4 @@
--- What comes of a program that is run on the sequential machine.
+-- The outcome of a program that is run on the sequential machine.
 use Rattle.std.proofs.Common.{◌≡◌, ℕ, List, [], Option, true, false, Some, Result, Ok, Err, refl, sym, ap, subst, ◌∙◌, inl, inr}
 use Rattle.cf_io.specs.Causes.{Rose, HasCause}
 use Rattle.cf_io.specs.Puts.{Writes}
@@ -50,7 +50,7 @@ broken c start last before after blank half ran.Limit cut runs = absurd (cc)
 broken c start last before after blank half ran.ReadFault cut runs = absurd (cc)
 broken c start last before after blank half ran.WriteFault cut runs = absurd (cc)
 
--- the count of the report's faults stays where the report did not fail in the run, and rises where it did
+-- the count of the report's faults is unchanged if the report did not fail in the run, and rises if it did
 report-stays : (before now : ℕ) (finish : Answer) → report_failed finish ≡ false →
     HasCause before now (report_stopped (Some finish)) → now ≡ before
 report-stays before now (ran.Exit code) sound h = h.still
@@ -69,7 +69,7 @@ report-rose before now ran.Limit cut h = absurd (cc)
 report-rose before now ran.ReadFault cut h = absurd (cc)
 report-rose before now ran.WriteFault cut h = absurd (cc)
 
--- the status says of the input and the output what the run says of them, and nothing of files
+-- about the input and the output the status says what the run says, and about files nothing
 input-said : (limit : ℕ) (finish : Answer) → input_answered (status_of_run limit finish) ≡ input_stopped (Some finish)
 input-said limit (ran.Exit code) = refl
 input-said limit (ran.Trap cause pc detail) = refl
@@ -87,7 +87,7 @@ output-said limit ran.ReadFault sound = refl
 output-said limit ran.WriteFault sound = refl
 output-said limit ran.ReportFault sound = absurd (cc)
 
--- where the report failed, neither did
+-- if the report failed, neither of them did
 input-works : (finish : Answer) → report_failed finish ≡ true → input_stopped (Some finish) ≡ Ok tt
 input-works ran.ReportFault cut = refl
 input-works (ran.Exit code) cut = absurd (cc)
@@ -112,7 +112,7 @@ files-said limit ran.ReadFault = refl
 files-said limit ran.WriteFault = refl
 files-said limit ran.ReportFault = refl
 
--- the lines that close its report were put, or failed, or its report had failed before
+-- the closing lines of its report were written, or failed, or its report had failed before
 pub machine-closed : (c : Chosen) (start last : Hart) (before after : Streams) (blank half full : Report) (finish : Answer)
     (result : Result Reported Failed) → RunsToFinish c start last before after blank.written half.written finish →
     HasCause blank.faults half.faults (report_stopped (Some finish)) → ClosesMachine c.limit finish last half full result →
@@ -142,7 +142,7 @@ machine-closed c start last before after blank half full finish (Err failed) run
       (report-rose blank.faults half.faults finish cut cause),
 )
 
--- a count rose exactly where the answer says so
+-- a count rose exactly if the answer says so
 pub machine-input : (limit : ℕ) (finish : Answer) (last : Hart) (half full : Report) (result : Result Reported Failed)
     (before now : ℕ) → ClosesMachine limit finish last half full result →
     HasCause before now (input_stopped (Some finish)) → FaultsReported input_answered before now result
@@ -165,7 +165,7 @@ machine-files limit finish last half full (Ok reported) (sound, closes) =
     ap files_answered closes.status_is ∙ files-said limit finish
 machine-files limit finish last half full (Err failed) closes = refl
 
--- what comes of a program that was run is the outcome of `machine`
+-- the outcome of a program that was run is that of `machine`
 pub program-comes : (chosen : Chosen) (before after : Outside) (name : List ℕ) (hart : Hart)
     (blank full : Report) (result : Result Reported Failed) →
     IsProgramAt name before.files after.files hart →

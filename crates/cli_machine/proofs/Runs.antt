@@ -35,7 +35,7 @@ abbrev pub told_of : Streams → Streams → Option (List ℕ) → Option (List 
 told_of before after blank full =
     record { before = before; after = after; blank = blank; full = full }
 
--- a run so far: n instructions from the start to this hart, and what the streams and the report tell now
+-- a run so far: n instructions from the start to this hart, and what the streams and the report expose now
 pub record Reached (c : Chosen) (start now : Hart) (t : Told) (n : ℕ) : Type 0 where
   pub last : Machine
   pub lines : List ℕ
@@ -62,7 +62,7 @@ reached-none c start s report = record {
   report = writes-nothing report;
 }
 
--- over an input that does not tell what it has left, the machine may have any rest
+-- over an input that does not expose its remaining bytes, the machine may have any rest
 leads-rest : (c : Chosen) (start m : Machine) (n : ℕ) (lines rest : List ℕ) →
     LeadsBy c start n m lines → LeadsBy c start n (record m { rest = rest }) lines
 unfolding LeadsBy
@@ -81,7 +81,7 @@ record Finds (c : Chosen) (start now : Hart) (t : Told) (n : ℕ) (rest : List �
   pub streams : Leaves t.before t.after machine.rest machine.output
   pub report : Writes t.blank t.full lines
 
--- where the input told what it had left, it is what the step finds
+-- if the input exposed its remaining bytes, the step finds these
 told-rest : (told : Option (List ℕ)) (a b : List ℕ) → told ≡ Some a → IsTold told b → a ≡ b
 told-rest None a b e h = absurd (cc)
 told-rest (Some told) a b e h = cc
@@ -233,7 +233,7 @@ reached-passed c start now before after blank half full n run same = record {
   report = text-before blank half full run.lines run.report same;
 }
 
--- or failed to
+-- or failed to pass it on
 pub stops-before : (c : Chosen) (start now : Hart) (before after : Streams) (blank half full : Option (List ℕ)) (n : ℕ) → n < c.limit →
     Reached c start now (told_of before after blank half) n → WritesNothing half full → StopsBefore c start now before after blank full
 stops-before c start now before after blank half full n below run same = record {
@@ -252,7 +252,7 @@ abbrev pub Ended : Chosen → Hart → Hart → Told → Ran → Type 0
 Ended c start new t end =
     (text : List ℕ) × Runs c start new t.before t.after end text × Writes t.blank t.full text
 
--- a step that leaves all as it was ends the run, as its outcome says
+-- a step that leaves all unchanged ends the run, as its outcome says
 ends : (c : Chosen) (start now new : Hart) (before between after : Streams)
     (blank full : Option (List ℕ)) (n : ℕ) (o : Outcome Machine) (end : Ran) →
     Reached c start now (told_of before between blank full) n →
@@ -351,7 +351,7 @@ runs-write-fault c start now new before between after blank full n run below cou
     fails c start now new before between after blank full n ran.WriteFault run count
     (ap (λ (h : Hart). h.retired) steps.2) (λ m lines reaches. (below, reaches)) steps
 
--- instructions that need no stream, one after another, where nothing is shown
+-- instructions that need no stream, one after another, if nothing is shown
 silent-text : (shows : Bool) (every : Option ℕ) (n : ℕ) (line : Retired) → is_silent shows every ≡ true → shown_text shows every n line ≡ []
 silent-text true every n line e = absurd (cc)
 silent-text false None n line e = refl

@@ -1,4 +1,4 @@
--- What is put after a run of the sequential machine that finished, and the outcome of the command.
+-- What is written after a run of the sequential machine that finished, and the outcome of the command.
 use Rattle.std.specs.Prelude.{ℕ, Bool, Result}
 use Rattle.cf_io.specs.declared.failed.Failed.{Failed}
 use Rattle.rv_machine.specs.Hart.{Hart}
@@ -14,7 +14,7 @@ use Rattle.cli_reports.specs.RunStatuses.{status_of_run}
 abbrev pub report_failed : Answer → Bool
 report_failed finish = is_report_fault (Ran finish)
 
--- the closing lines were put where the report had not failed during the run; where it had, nothing more was put
+-- the closing lines were written if the report had not failed during the run; if it had, nothing more was written
 abbrev pub ClosesMachine : (limit : ℕ) → Answer → Hart → (half full : Report) → Result Reported Failed → Type 0
 ClosesMachine limit finish last half full result =
     PutsClosing (report_failed finish) (status_of_run limit finish) (machine_closing limit finish last.retired last.regs) half full result

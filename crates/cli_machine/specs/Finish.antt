@@ -1,4 +1,4 @@
--- How a run of the sequential machine finishes, what it leaves of the outside, and what it shows.
+-- How a run of the sequential machine finishes, its effect on the outside, and what it shows.
 use Rattle.std.specs.Prelude.{◌≡◌, ◌⊎◌, ◌<◌, ◌+◌, ℕ, List, [], true, Option, unwrap_or}
 use Rattle.rv_inst.specs.declared.isa.Isa.{Isa}
 use Rattle.rv_machine.specs.Hart.{Hart}
@@ -15,12 +15,13 @@ use Rattle.run_finishes.specs.declared.finish.Ran.TheVariants as ran
 use Rattle.cli_machine.specs.Options.{Chosen, is_shown, shown_text}
 use Rattle.cli_machine.specs.Lines.{ReachesBy}
 
--- the machine before its first step: it has all that the input tells, and has written nothing
+-- the machine before its first step: it has all that the input exposes, and has written nothing
 abbrev pub opening : Hart → Option (List ℕ) → Machine
 opening hart left = record { hart = hart; rest = unwrap_or left []; output = [] }
 
--- this is what is shown of n instructions: fewer than the limit, and the next one ends the program or traps; or fewer,
--- and a stream fails the next one, as `Closes` says; or n is the limit, and no further instruction is looked at
+-- this is what is shown of n instructions: n is below the limit, and the next instruction ends the program or traps; or
+-- n is below the limit, and a stream fails the next one, as `Closes` says; or n is the limit, and no further
+-- instruction is tried
 abbrev pub Finishes : Chosen → Option (List ℕ) → Machine → Ran → ℕ → Machine → List ℕ → Type 0
 Finishes chosen left start (ran.Exit status) n m text =
     (n < chosen.limit) × ReachesBy chosen left start n m text
@@ -36,7 +37,8 @@ Finishes chosen left start ran.WriteFault n m text =
     (n < chosen.limit) × ReachesBy chosen left start n m text
 Finishes chosen left start ran.ReportFault n m text = ⊥
 
--- what the finish leaves of the hart and of what the streams tell: everything, or what is left by an environment call that one of the streams failed
+-- how the finish changes the hart and what the streams expose: not at all, or like an environment call that one of the
+-- streams failed
 abbrev pub Closes : Isa → Ran → Hart → Hart → Streams → Streams → Type 0
 Closes isa (ran.Exit status) last new before after = (new ≡ last) × (after ≡ before)
 Closes isa (ran.Trap cause pc detail) last new before after = (new ≡ last) × (after ≡ before)
@@ -48,7 +50,8 @@ Closes isa ran.WriteFault last new before after =
     CallsHere isa last × FailsWriting last.regs last.mem before after × (new ≡ last)
 Closes isa ran.ReportFault last new before after = ⊥
 
--- a run from one hart to another with the options chosen: what it shows, and what it takes from the input and puts to the output
+-- a run from one hart to another with these options: what it shows, what it takes from the input and writes to the
+-- output
 pub record Runs (chosen : Chosen) (start new : Hart) (before after : Streams) (finish : Ran)
     (text : List ℕ) : Type 0 where
   pub count : ℕ
@@ -59,8 +62,8 @@ pub record Runs (chosen : Chosen) (start new : Hart) (before after : Streams) (f
   pub streams : Leaves before between last.rest last.output
   pub closes : Closes chosen.isa finish last.hart new between after
 
--- a run that ended because the report failed at what is shown of an instruction: what is shown of those before it was
--- written, and then a prefix of that; it has retired
+-- a run that ended because the report failed at what is shown of an instruction: what is shown of earlier ones was
+-- written, and then a prefix of that; the instruction has retired
 pub record BreaksOff (chosen : Chosen) (start new : Hart) (before after : Streams)
     (blank full : Option (List ℕ)) : Type 0 where
   pub count : ℕ
@@ -78,8 +81,8 @@ pub record BreaksOff (chosen : Chosen) (start new : Hart) (before after : Stream
   pub shows : is_shown chosen.shows chosen.every next.hart.retired ≡ true
   pub breaks : WritesFront half full (shown_text chosen.shows chosen.every next.hart.retired line)
 
--- a run that ended because the report failed before an instruction, to pass on what it had gathered: what is shown of
--- those before it was written, and it was not executed
+-- a run that ended because the report failed to pass on what it had gathered before an instruction: what is shown of
+-- earlier ones was written, and the instruction was not executed
 pub record StopsBefore (chosen : Chosen) (start new : Hart) (before after : Streams)
     (blank full : Option (List ℕ)) : Type 0 where
   pub count : ℕ

@@ -1,4 +1,4 @@
--- What the command `machine` answers, and what it leaves of the outside.
+-- The answer of the command `machine`, and its effect on the outside.
 use Rattle.std.specs.Prelude.{◌≡◌, ◌⊎◌, ℕ, List, ◌++◌, Option}
 use Rattle.rv_machine.specs.Hart.{Hart}
 use Rattle.rv_machine.specs.Streams.{Streams}
@@ -27,7 +27,7 @@ pub record RunsProgram (name : List ℕ) (chosen : Chosen) (before after : Outsi
   pub program : IsProgramAt name before.files after.files start
   pub runs : RunsHart chosen start before.streams after.streams answer lines closing
 
--- there is no program, and the streams were left alone
+-- there is no program, and the streams were left unchanged
 pub record RefusesMachine (name : List ℕ) (before after : Outside) (answer : Status)
     (report : List ℕ) : Type 0 where
   pub lacks : LacksProgram name before.files after.files answer report
@@ -45,7 +45,7 @@ pub record BreaksHart (chosen : Chosen) (start : Hart) (before after : Streams)
   pub last : Hart
   pub breaks : ReportFails chosen start last before after blank full
 
--- the file holds a program, and its run broke off because the report failed: nothing more was put to the report
+-- the file holds a program, and its run broke off because the report failed: nothing more was written to the report
 pub record BreaksProgram (name : List ℕ) (chosen : Chosen) (before after : Outside)
     (blank full : Option (List ℕ)) : Type 0 where
   pub start : Hart

@@ -6,22 +6,22 @@ use Rattle.rv_machine.specs.declared.outcome.Retired.{Retired}
 use Rattle.cf_report.specs.Lines.{retired_line}
 use Rattle.cf_report.specs.Progress.{is_step, machine_line}
 
--- the instruction set, the number of retired instructions at which the run stops, whether each of them is shown by a line,
--- and after each of how many it is said how far the run has come, if it is
+-- the instruction set, the number of retired instructions at which the run stops, whether a line shows each of them,
+-- and the number of them after which the report says each time how far the run has come, if it does
 pub record Chosen : Type 0 where
   pub isa : Isa
   pub limit : ℕ
   pub shows : Bool
   pub every : Option ℕ
 
--- RV32IM where the machine multiplies and divides, else RV32I
+-- RV32IM if the machine multiplies and divides, and otherwise RV32I
 abbrev pub machine_isa : Bool → Isa
 machine_isa mul = if mul then Rv32im else Rv32i
 
 abbrev pub chosen_of : ℕ → Bool → Bool → Option ℕ → Chosen
 chosen_of limit shows mul every = record { isa = machine_isa mul; limit = limit; shows = shows; every = every }
 
--- the lines, where they are shown
+-- the lines, if they are shown
 abbrev pub lines_shown : Bool → List ℕ → List ℕ
 lines_shown shows text = if shows then text else []
 

@@ -17,7 +17,8 @@ fn is_cut(finish: Ran) -> bool
     matches!(finish, Ran::ReportFault)
 }
 
-/// Puts the closing lines after a run. It fails where the report failed during the run; nothing more is then put to the report.
+/// Writes the closing lines after a run. It fails if the report failed during the run; then nothing more is written to
+/// the report.
 pub fn close_machine<R: Sink>(
     machine: &Machine,
     limit: u64,

@@ -16,9 +16,9 @@ use cli_reports::{Reported, RunStreams, put_answer};
 use rv_machine::Machine;
 use std::alloc::Global;
 
-/// Runs a machine that has retired nothing yet, and puts the lines that it shows and those that close its report.
-// The machine is moved into a local of a function of its own: since nothing but the run points to it, the compiler need not
-// read its parts again after each store to memory.
+/// Runs a machine that has retired nothing yet, and writes the lines that it shows and the closing lines of its report.
+// The machine is moved into a local of a separate function: since nothing but the run points to it, the compiler need
+// not read its parts again after each store to memory.
 #[inline(never)]
 fn run_machine<S: Source, K: Sink, R: ReportSink>(
     machine: Machine,
@@ -41,9 +41,9 @@ fn run_machine<S: Source, K: Sink, R: ReportSink>(
     close_machine(&running, options.limit, finish, report)
 }
 
-/// Carries out `machine`: reads the program's file and runs it, and puts the lines that are to be shown, then how the run
-/// finished, how many instructions retired, and the registers. It fails where the report fails during the run; nothing
-/// more is then put to the report.
+/// Carries out `machine`: reads the program's file and runs it, and writes the lines that are to be shown, then how the
+/// run finished, how many instructions retired, and the registers. It fails if the report fails during the run; then
+/// nothing more is written to the report.
 pub fn run_program<F: Files, S: Source, K: Sink, R: ReportSink>(
     alloc: Global,
     program: &str,

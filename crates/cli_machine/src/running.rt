@@ -27,9 +27,9 @@ fn instruction_set(mul: bool) -> Isa
     if mul { Isa::Rv32im } else { Isa::Rv32i }
 }
 
-/// Puts the line of an instruction that retired; `count` have retired with it.
-// The line's page is large, and would slow the run down if it were a local of its loop; so would the line as one value, which
-// would be put into memory at each step, whether it is shown or not.
+/// Writes the line of an instruction that retired; `count` have retired, including it.
+// The line's page is large, and would slow the run down if it were a local of its loop; so would the line as one value,
+// which would be written to memory at each step, whether or not it is shown.
 #[inline(never)]
 fn put_line<R: Sink>(
     count: u64,
@@ -50,7 +50,7 @@ fn put_line<R: Sink>(
     put_retired(count, &line, report)
 }
 
-/// The same, where lines are shown.
+/// The same, if lines are shown.
 #[inline(always)]
 fn show_line<R: Sink>(shows: bool, count: u64, line: Retired, report: &mut R) -> Result<(), Failed>
     ensures puts { PutsInto R.Sink report.old report.new (lines_shown shows (retired_line count line)) result }
@@ -63,7 +63,7 @@ fn show_line<R: Sink>(shows: bool, count: u64, line: Retired, report: &mut R) ->
     }
 }
 
-/// Puts how far the run has come, where it is said after this many retired instructions.
+/// Writes how far the run has come, if that is shown after this many retired instructions.
 #[inline(always)]
 fn show_progress<R: Sink>(every: Option<u64>, count: u64, report: &mut R) -> Result<(), Failed>
     ensures puts { PutsInto R.Sink report.old report.new (lines_shown (is_step_of every count) (machine_line count)) result }
@@ -76,7 +76,7 @@ fn show_progress<R: Sink>(every: Option<u64>, count: u64, report: &mut R) -> Res
     }
 }
 
-/// Puts what is shown of an instruction that retired; `count` have retired with it.
+/// Writes what is shown of an instruction that retired; `count` have retired, including it.
 #[inline(always)]
 fn show_step<R: Sink>(
     options: MachineOptions,
@@ -94,7 +94,7 @@ fn show_step<R: Sink>(
 /// The word of an environment call.
 const CALL: u32 = 0x0000_0073;
 
-/// Passes on what the report has gathered, where the next instruction is an environment call, which may read or write.
+/// Passes on what the report has gathered, if the next instruction is an environment call, which may read or write.
 #[inline(always)]
 fn pass_before<R: ReportSink>(machine: &Machine, report: &mut R) -> Result<(), Failed>
     ensures written { WritesNothing (R.written report.old) (R.written report.new) }
@@ -115,7 +115,7 @@ fn is_silent(options: MachineOptions) -> bool
     !options.show_retired && options.every.is_none()
 }
 
-/// Where nothing is shown of instructions, executes them as long as they need no stream, until `end` have retired.
+/// If nothing is shown of instructions, executes them as long as they need no stream, until `end` have retired.
 #[inline(always)]
 #[tactic(auto, using(crate::proofs::Runs::standing))]
 fn run_unshown(machine: &mut Machine, options: MachineOptions, end: u64)
@@ -130,12 +130,12 @@ fn run_unshown(machine: &mut Machine, options: MachineOptions, end: u64)
     }
 }
 
-/// Runs the machine until the program ends or traps, one of its streams fails, or as many more
-/// instructions have retired as the options allow. Each retired instruction's line is put to the report as it comes,
-/// and how far the run has come, where the options ask for that; the run ends with `ReportFault` where the report fails; nothing more is then put to it.
-/// Before an environment call the report passes on what it has gathered.
-// The machine makes a step in this place alone, so that the compiler makes the whole step a part of the loop: a second
-// call of it, for the other instruction set, cost half the speed.
+/// Runs the machine until the program ends or traps, one of its streams fails, or as many more instructions have
+/// retired as the options allow. Each retired instruction's line is written to the report as it comes, and also how far
+/// the run has come, if the options ask for that. The run ends with `ReportFault` if the report fails; then nothing
+/// more is written to it. Before an environment call the report passes on what it has gathered.
+// The machine makes a step only here, so that the compiler makes the whole step a part of the loop: a second call of
+// it, for the other instruction set, cost half the speed.
 pub fn run<S: Source, K: Sink, R: ReportSink>(
     machine: &mut Machine,
     options: MachineOptions,

@@ -1,4 +1,4 @@
--- What comes of a search, and what `orders` answers.
+-- The outcome of a search, and what `orders` answers.
 use Rattle.std.proofs.Common.{◌≡◌, ℕ, List, Option, None, Result, Ok, Err, refl, inl, inr}
 use Rattle.std.specs.Prelude.{IfOk}
 use Rattle.rv_machine.specs.Hart.{Hart}
@@ -12,11 +12,11 @@ use Rattle.cli_reports.specs.Reporting.{ReportsAlone}
 use Rattle.cli_reports.specs.declared.reporting.Reported.{Reported}
 use Rattle.cli_orders.specs.Orders.{ComesOfFound, ComesOfOrders}
 
--- the streams are as they were where both are
+-- if both were found, the streams are unchanged
 streams-same : (input left output written : Option (List ℕ)) → left ≡ input → written ≡ output → streams_of left written ≡ streams_of input output
 streams-same input left output written e f = rw (e, f) refl
 
--- what was put of what a search has found is the command's
+-- what was written of the findings of a search is what the command writes
 pub orders-come : {E : Type 0} (options : OrdersOptions) (plan : Plan) (hart : Hart) (input left output written : Option (List ℕ))
     (blank full : Report) (found : Result OrdersFound E) (reported : Reported) →
     IfOk found (AreOrdersFound (trial_of options.without plan hart options.issues) options.states) → (options.without ≡ None → IfOk found IsNotWrong) →

@@ -1,4 +1,5 @@
--- What a search finds can be put: the state that a wrong list leads to can be drawn, and what retires there encoded.
+-- The findings of a search can be written: the state to which a wrong list leads can be drawn, and what retires there
+-- encoded.
 use Rattle.std.proofs.Common.{◌≡◌, ◌≤◌, ℕ, suc, List, [], ◌∷◌, All, length, map, Option, Some, None, Ok, Err, Result, refl, sym, ap, subst, arith}
 use Rattle.std.specs.Prelude.{IfOk, IfSome}
 use Rattle.std.proofs.lemmas.List.Elements.{All-cons, All-head, All-nil, All-tail}
@@ -30,7 +31,7 @@ use Rattle.order_search.specs.declared.orders.Orders.TheVariants.{Exactly, More,
 use Rattle.cli_orders.specs.OrderTexts.{DoEnd}
 use Rattle.cli_orders.specs.Orders.{CanBePut}
 
--- as many sidings, and as many cells in each, as the layout has
+-- as many sidings as the layout has, and as many cells in each
 as_many : (sidings : List (List (Option Op))) (plans : List SidingPlan) → map length sidings ≡ map (λ k. k.cells) plans → length sidings ≡ length plans
 as_many [] [] e = refl
 as_many [] (k ∷ ks) e = absurd (cc)
@@ -56,7 +57,7 @@ drawable plan s equipped shaped = record {
   short = as_short s.sidings plan.sidings shaped.as_long (λ k d below. (equipped.sidings k d below).cells.1);
 }
 
--- an instruction that counts as one that can be encoded
+-- if there is an instruction, it can be encoded
 encodable : (what : Option Instr) → Fits (on what Ebreak (λ i. i)) → IfSome what (λ i. Fits i)
 encodable None h = tt
 encodable (Some i) h = h

@@ -32,23 +32,23 @@ kind_word kinds.Output = codes "output"
 kind_word kinds.Stuck = codes "stuck"
 kind_word kinds.Memory = codes "memory"
 
--- after how many moves a list is wrong, and in which way
+-- the number of moves after which a list is wrong, and in which way
 unfoldable pub wrong_line : ℕ → WrongKind → List ℕ
 wrong_line moves kind = line (codes "wrong after " ++ decimal moves ++ codes " moves: " ++ kind_word kind)
 
--- the instruction that leaves, as the line of one that retired has it
+-- the instruction that leaves, as in the line of one that retired
 abbrev pub IsLeavingLine : Option Passenger → Option Retired → Type 0
 IsLeavingLine None None = Unit {0}
 IsLeavingLine None (Some shown) = ⊥
 IsLeavingLine (Some p) None = ⊥
 IsLeavingLine (Some p) (Some shown) = Shows (line_of p) shown
 
--- the line of the instruction that retired as the n-th, after this word; none where there is no such instruction
+-- the line of the n-th instruction to retire, after this word; none if there is no such instruction
 unfoldable pub named_line : List ℕ → ℕ → Option Retired → List ℕ
 named_line name n None = []
 named_line name n (Some line) = name ++ retired_line n line
 
--- what retired and what the machine would have retired, where a list is wrong in that
+-- what retired and what the machine would have retired, if that is how a list is wrong
 unfoldable pub both_lines : WrongKind → ℕ → Option Retired → Option Retired → List ℕ
 both_lines kinds.Retired n seen wanted = named_line (codes "seen ") n seen ++ named_line (codes "wanted ") n wanted
 both_lines kinds.Ended n seen wanted = []
@@ -65,7 +65,7 @@ unfoldable pub wrong_text : Plan → (moves : ℕ) → WrongKind → (retired : 
 wrong_text plan moves kind retired seen wanted s tally =
     wrong_line moves kind ++ both_lines kind retired seen wanted ++ counted_line (codes "retired ") retired ++ rest_text plan s tally
 
--- the same of what a search has found, where the last move retires this line
+-- the same for the findings of a search, if the last move retires this line
 abbrev pub wrong_report : Plan → WrongOrder → Option Retired → List ℕ
 wrong_report plan w seen = wrong_text plan (length w.moves.items) w.kind w.reached.retired seen w.wanted w.reached
     (order_tally (length w.moves.items) w.counts)
@@ -73,23 +73,24 @@ wrong_report plan w seen = wrong_text plan (length w.moves.items) w.kind w.reach
 abbrev pub IsWrongReport : Plan → WrongOrder → List ℕ → Type 0
 IsWrongReport plan w report = (seen : Option Retired) × IsLeavingLine w.seen seen × (report ≡ wrong_report plan w seen)
 
--- that lists of moves go on without end is not what was counted
+-- the count does not say that lists of moves go on without end
 abbrev pub DoEnd : Orders → Type 0
 DoEnd (Exactly count) = Unit {0}
 DoEnd More = Unit {0}
 DoEnd Endless = ⊥
 
--- how many lists of moves there are, where they end
+-- the number of lists of moves, if they end
 unfoldable pub orders_line : Orders → List ℕ
 orders_line (Exactly count) = counted_line (codes "orders ") count
 orders_line More = line (codes "orders more than 18446744073709551615")
 orders_line Endless = []
 
--- how many states are reached, moves lead on from them, of them have none, and lists of moves lead to these
+-- how many states are reached, how many moves lead on from them, how many states have none, and how many lists of moves
+-- lead to these
 unfoldable pub search_counts_text : (states moves ends : ℕ) → Orders → List ℕ
 search_counts_text states moves ends orders =
     counted_line (codes "states ") states ++ counted_line (codes "moves ") moves ++ counted_line (codes "ends ") ends ++ orders_line orders
 
--- more states are reached than may be
+-- more states are reached than are allowed
 unfoldable pub too_many_line : ℕ → List ℕ
 too_many_line most = line (codes "more than " ++ decimal most ++ codes " states")

@@ -1,4 +1,4 @@
--- What the command `orders` answers, and what it leaves of the outside.
+-- The answer of the command `orders`, and its effect on the outside.
 use Rattle.std.specs.Prelude.{◌≡◌, ◌⊎◌, ℕ, List, codes, length, Bool, true, false, Option, None, Some, Result, Ok, Err, IfSome}
 use Rattle.cf_io.specs.Causes.{HasCause}
 use Rattle.cf_io.specs.Puts.{Writes, WritesFront}
@@ -38,8 +38,8 @@ pub record OrdersAsked : Type 0 where
 abbrev pub orders_asked : NamedLayout → List ℕ → OrdersOptions → OrdersAsked
 orders_asked layout program options = record { layout = layout; program = program; options = options }
 
--- what a call that has the output and the report leaves of them: the status says neither of a file nor of the input that it failed, and
--- the count of the output's faults rose exactly where it says so
+-- the effect of a call on the output and the report: the status says neither that a file failed nor that the input did,
+-- and the count of the output's faults rose exactly if the status says that the output failed
 pub record ReportsByOutput {K R : Type 0} (answers : Option (List ℕ) → Option (List ℕ) → Status → List ℕ → Type 0)
     (of_output : SinkMembers K) (of_report : SinkMembers R) (before after : K × R) (reported : Reported) : Type 0 where
   pub comes : ReportsAlone (answers (of_output.written before.0) (of_output.written after.0))
@@ -48,21 +48,22 @@ pub record ReportsByOutput {K R : Type 0} (answers : Option (List ℕ) → Optio
   pub input : input_answered reported.status ≡ Ok tt
   pub output : HasCause (of_output.faults before.0) (of_output.faults after.0) (output_answered reported.status)
 
--- a text was put to the output, and this is the status and such the report; or the output failed after a prefix of it
+-- a text was written to the output, with this status and a report of this kind; or the output failed after a prefix of
+-- it
 abbrev pub PutsFirst : (text : List ℕ) → (said : Status) → (Reports : List ℕ → Type 0) → (before after : Option (List ℕ)) → Status → List ℕ → Type 0
 PutsFirst text said Reports before after answer report =
     (Writes before after text × (answer ≡ said) × Reports report)
     ⊎ (WritesFront before after text × (answer ≡ status.WriteFault) × (report ≡ line (codes "write fault output")))
 
--- the moves from the states were put where they are shown, and the report counts the states
+-- the moves from the states were written if they are shown, and the report counts the states
 pub record PutsReached (edges : Bool) (r : OrdersReached) (before after : Option (List ℕ)) (answer : Status) (report : List ℕ) : Type 0 where
   pub text : List ℕ
   pub shows : ShowsEdges edges r text
   pub puts : PutsFirst text status.Done (λ report. report ≡ search_counts_text (length (states_of r)) r.reached.edges r.reached.ends r.reached.orders)
       before after answer report
 
--- what is put of what a search has found: of a wrong list of moves its script, and how it is wrong; or the moves and the
--- counts; or that there are more states than were asked for
+-- what is written of the findings of a search: for a wrong list of moves its script, and how it is wrong; or the moves
+-- and the counts; or that there are more states than were asked for
 abbrev pub PutsFound : OrdersOptions → Plan → OrdersFound → (before after : Option (List ℕ)) → Status → List ℕ → Type 0
 PutsFound options plan (Wrong w) before after answer report =
     PutsFirst (script_text w.moves.items) status.Wrong (IsWrongReport plan w) before after answer report
@@ -70,24 +71,25 @@ PutsFound options plan (Reached r) before after answer report = PutsReached opti
 PutsFound options plan TooMany before after answer report =
     (after ≡ before) × (answer ≡ status.TooMany options.states) × (report ≡ too_many_line options.states)
 
--- memory was refused before anything was put
+-- memory was refused before anything was written
 abbrev pub PutsNothing : (before after : Option (List ℕ)) → Status → List ℕ → Type 0
 PutsNothing before after answer report = (after ≡ before) × SaysNoMemory answer report
 
--- what comes of a search that has found something, or for which there was no memory
+-- the outcome of a search that has found something, or for which there was no memory
 abbrev pub ComesOfFound : {E : Type 0} → OrdersOptions → Plan → Result OrdersFound E → (before after : Option (List ℕ)) → Status → List ℕ → Type 0
 ComesOfFound options plan (Ok found) before after answer report = PutsFound options plan found before after answer report ⊎
     PutsNothing before after answer report
 ComesOfFound options plan (Err error) before after answer report = PutsNothing before after answer report
 
--- what is needed of it: the state that a wrong list leads to can be drawn, and its last instruction encoded; the states
--- that were reached are those of a graph, and the lists of moves to them end
+-- what is needed of the findings: the state to which a wrong list leads can be drawn, and its last instruction encoded;
+-- the states that were reached are those of a graph, and the lists of moves that lead to them end
 abbrev pub CanBePut : OrdersFound → Type 0
 CanBePut (Wrong w) = IsDrawable w.reached × IfSome w.seen IsEncodable
 CanBePut (Reached r) = IsSearched r × DoEnd r.reached.orders
 CanBePut TooMany = Unit {0}
 
--- all lists of moves of the program were gone through, and this is put of what was found; with no rule taken away none is wrong
+-- all lists of moves of the program were tried, and this is written of the findings; if no rule is taken away, no list
+-- is wrong
 pub record SearchesOrders (options : OrdersOptions) (plan : Plan) (hart : Hart) (before after : Streams) (answer : Status) (report : List ℕ) : Type 0 where
   pub found : OrdersFound
   pub finds : AreOrdersFound (trial_of options.without plan hart options.issues) options.states found
@@ -95,7 +97,7 @@ pub record SearchesOrders (options : OrdersOptions) (plan : Plan) (hart : Hart) 
   pub puts : PutsFound options plan found before.output after.output answer report
   pub input : after.input ≡ before.input
 
--- what comes of a layout and a hart; or memory was refused
+-- the outcome for a layout and a hart; or memory was refused
 abbrev pub ComesOfOrders : OrdersOptions → Plan → Hart → Streams → Streams → Status → List ℕ → Type 0
 ComesOfOrders options plan hart before after answer report =
     SearchesOrders options plan hart before after answer report ⊎ LacksProcessor before after answer report
@@ -105,24 +107,24 @@ abbrev pub is_loose : Option Rule → Bool
 is_loose (Some ControlAboveMemory) = true
 is_loose _ = false
 
--- the layout and the program are there: a layout that breaks that rule alone is one where it is taken away
+-- the layout and the program were found; a layout that breaks only that rule is accepted if the rule is taken away
 abbrev pub AreFilesThere : (loose : Bool) → NamedLayout → (program : List ℕ) → Option FilesSeen → Option FilesSeen → Plan → Hart → Type 0
 AreFilesThere true layout program before after plan hart = IsLoadedLoosely layout program before after plan hart
 AreFilesThere false layout program before after plan hart = IsLoaded layout program before after plan hart
 
--- the first of the two that is not there, the status that says why, and the report
+-- the first of the two that is missing, the status that says why, and the report
 abbrev pub AreMissing : (loose : Bool) → NamedLayout → (program : List ℕ) → Option FilesSeen → Option FilesSeen → Status → List ℕ → Type 0
 AreMissing true layout program before after answer report = LacksLoadedLoosely layout program before after answer report
 AreMissing false layout program before after answer report = LacksLoaded layout program before after answer report
 
--- the layout and the program were read, and this comes of them
+-- the layout and the program were read, and this is the outcome
 pub record SearchesLoaded (asked : OrdersAsked) (before after : Outside) (answer : Status) (report : List ℕ) : Type 0 where
   pub plan : Plan
   pub hart : Hart
   pub loaded : AreFilesThere (is_loose asked.options.without) asked.layout asked.program before.files after.files plan hart
   pub comes : ComesOfOrders asked.options plan hart before.streams after.streams answer report
 
--- one of them is missing, and the streams were left alone
+-- one of them is missing, and the streams were left unchanged
 pub record RefusesOrders (asked : OrdersAsked) (before after : Outside) (answer : Status) (report : List ℕ) : Type 0 where
   pub lacks : AreMissing (is_loose asked.options.without) asked.layout asked.program before.files after.files answer report
   pub streams : after.streams ≡ before.streams

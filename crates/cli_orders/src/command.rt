@@ -25,14 +25,15 @@ fn is_loose(away: Option<Rule>) -> bool
     matches!(away, Some(Rule::ControlAboveMemory))
 }
 
-/// A fact for the prover: a layout has passed the tests of its parts, so each state that a search reaches can be put.
+/// A fact for the prover: a layout has passed the tests of its parts, so each state that a search reaches can be
+/// written.
 fn is_equipped(layout: &LooseLayout)
     ensures { IsEquipped layout.now }
 {
     let _ = layout.stages();
 }
 
-/// Searches all orders of a program under a layout, and puts what is found.
+/// Searches all orders of a program under a layout, and writes the findings.
 fn search_images<S: Source, K: Sink, R: Sink>(
     alloc: Global,
     layout: &Layout,
@@ -68,7 +69,7 @@ fn search_images<S: Source, K: Sink, R: Sink>(
     put_found(alloc, loose, options, found, output, report)
 }
 
-/// The same under a layout that may break the rule on where control turns, which is the one that is taken away.
+/// The same under a layout that may break the rule on where control turns, which is the rule taken away.
 fn search_images_loosely<S: Source, K: Sink, R: Sink>(
     alloc: Global,
     layout: &LooseLayout,
@@ -127,7 +128,7 @@ fn search_strictly<F: Files, S: Source, K: Sink, R: Sink>(
     }
 }
 
-/// The same, where the rule on where control turns is taken away.
+/// The same, if the rule on where control turns is taken away.
 fn search_without_control<F: Files, S: Source, K: Sink, R: Sink>(
     alloc: Global,
     layout: LayoutArgument<'_>,
@@ -150,12 +151,13 @@ fn search_without_control<F: Files, S: Source, K: Sink, R: Sink>(
     }
 }
 
-/// Carries out `orders`: reads the layout and the program, in this order, and goes through all lists of moves with at most as many
-/// Issue moves as the options say, breadth first, in the table without the rule that they take away, if any. The first list that is
-/// wrong is put to the output as a script; the report then says after how many moves and in which way it is wrong, and ends as that of
-/// a run of the script. If none is, the report has the numbers of states, of moves between them, of states without a move and of lists
-/// that lead to these, and the output each move where edges are shown. More states than the options allow end the search. The
-/// program's input is empty. Where the rule on where control turns is taken away, a layout that breaks it alone is accepted.
+/// Carries out `orders`: reads the layout and the program, in this order, and tries all lists of moves with at most as
+/// many Issue moves as the options say, breadth first, in the table without the rule that they take away, if any. The
+/// first wrong list is written to the output as a script; then the report says after how many moves and in which way it
+/// is wrong, and ends as that of a run of the script. If no list is wrong, the report has the numbers of states, of
+/// moves between them, of states without a move and of lists that lead to these, and the output has each move if edges
+/// are shown. More states than the options allow end the search. The program's input is empty. If the rule on where
+/// control turns is taken away, a layout that breaks only that rule is accepted.
 pub fn search_program<F: Files, S: Source, K: Sink, R: Sink>(
     alloc: Global,
     layout: LayoutArgument<'_>,

@@ -25,7 +25,8 @@ fn push_orders(page: &mut Page, orders: Orders)
     }
 }
 
-/// How many states were reached, moves lead on from them, of them have none, and lists of moves lead to these.
+/// How many states were reached, how many moves lead on from them, how many states have none, and how many lists of
+/// moves lead to these.
 fn counts_page(states: u64, moves: u64, ends: u64, orders: Orders) -> Page
     requires { DoEnd orders }
     ensures { result ≡ search_counts_text states moves ends orders }
@@ -56,7 +57,7 @@ pub(crate) fn counted(reached: &OrdersReached) -> Answer
     }
 }
 
-/// The line that says that more states are reached than may be.
+/// The line that says that more states are reached than are allowed.
 fn too_many_page(most: u32) -> Page
     ensures { result ≡ too_many_line most }
 {

@@ -13,7 +13,7 @@ use order_search::NumberedEdge;
 use std::alloc::{AllocError, Global};
 use texts::Page;
 
-/// The numbers of the states before and after a move, each before a space.
+/// The numbers of the states before and after a move, each with a space after it.
 fn numbers_page(from: u64, to: u64) -> Page
     ensures { result ≡ decimal from ++ codes " " ++ decimal to ++ codes " " }
 {
@@ -58,7 +58,7 @@ fn all_edges(alloc: Global, reached: &mut OrdersReached) -> Result<Vec<u8>, Allo
     Ok(text)
 }
 
-/// The same, where edges are shown; else no line.
+/// The same, if edges are shown; otherwise no line.
 pub(crate) fn shown_edges(
     alloc: Global,
     edges: bool,

@@ -1,4 +1,4 @@
-//! What is put of what a search has found.
+//! Writing the findings of a search.
 
 ghost use Rattle.std.specs.Prelude.{◌≡◌, ◌⊎◌, IfOk};
 ghost use Rattle.cli_files.specs.Outside.{report_in};
@@ -23,7 +23,7 @@ use cli_reports::{Reported, put_answer};
 use order_graph::{OrdersFound, OrdersReached, WrongOrder};
 use std::alloc::{AllocError, Global};
 
-/// Puts the report of a wrong list of moves.
+/// Writes the report of a wrong list of moves.
 fn report_wrong<R: Sink>(layout: &LooseLayout, wrong: &WrongOrder, report: &mut R) -> Reported
     requires { CanBePut (founds.Wrong wrong.now) }
     ensures status { result.status ≡ IsWrong }
@@ -37,7 +37,7 @@ fn report_wrong<R: Sink>(layout: &LooseLayout, wrong: &WrongOrder, report: &mut 
     }
 }
 
-/// Puts the script of a wrong list of moves to the output, and then the report.
+/// Writes the script of a wrong list of moves to the output, and then the report.
 fn put_wrong<K: Sink, R: Sink>(
     alloc: Global,
     layout: &LooseLayout,
@@ -61,7 +61,7 @@ fn put_wrong<K: Sink, R: Sink>(
     }
 }
 
-/// Puts the moves to the output where they are shown, and answers how much was reached.
+/// Writes the moves to the output if they are shown, and returns how much was reached.
 fn answer_reached<K: Sink>(
     alloc: Global,
     edges: bool,
@@ -83,7 +83,7 @@ fn answer_reached<K: Sink>(
     }
 }
 
-/// Puts what a search has found.
+/// Writes the findings of a search.
 fn put_some<K: Sink, R: Sink>(
     alloc: Global,
     layout: &LooseLayout,

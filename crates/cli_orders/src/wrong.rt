@@ -45,7 +45,7 @@ fn wrong_page(moves: u64, kind: WrongKind) -> Page
     page
 }
 
-/// Puts it.
+/// Writes that line.
 fn put_head<R: Sink>(moves: u64, kind: WrongKind, report: &mut R) -> Result<(), Failed>
     ensures { PutsInto R.Sink report.old report.new (wrong_line moves kind) result }
 {
@@ -53,7 +53,7 @@ fn put_head<R: Sink>(moves: u64, kind: WrongKind, report: &mut R) -> Result<(), 
     put_all(report, page.bytes())
 }
 
-/// Puts the line of the instruction that retired as the `n`th, after a word.
+/// Writes the line of the instruction that retired as the `n`th, after a word.
 fn put_line<R: Sink>(name: &[u8], n: u64, line: &Retired, report: &mut R) -> Result<(), Failed>
     ensures { PutsInto R.Sink report.old report.new (name.now ++ retired_line n line.now) result }
 {
@@ -76,7 +76,7 @@ fn put_named<R: Sink>(
     }
 }
 
-/// Puts what retired, and what the machine would have retired.
+/// Writes what retired, and what the machine would have retired.
 fn put_pair<R: Sink>(
     n: u64,
     seen: Option<Retired>,
@@ -89,7 +89,7 @@ fn put_pair<R: Sink>(
     put_named(b"wanted ", n, wanted, report)
 }
 
-/// The same, where the list is wrong in that.
+/// The same, if that is how the list is wrong.
 fn put_both<R: Sink>(
     kind: WrongKind,
     n: u64,
@@ -105,7 +105,7 @@ fn put_both<R: Sink>(
     }
 }
 
-/// Puts how many instructions have retired.
+/// Writes how many instructions have retired.
 fn put_count<R: Sink>(retired: u64, report: &mut R) -> Result<(), Failed>
     ensures { PutsInto R.Sink report.old report.new (counted_line (codes "retired ") retired) result }
 {
@@ -133,7 +133,7 @@ fn retired_in(situation: &Situation) -> u64
     situation.retired
 }
 
-/// Puts the parts of the report of a wrong list, one after another.
+/// Writes the parts of the report of a wrong list, one after another.
 fn put_parts<R: Sink>(
     layout: &LooseLayout,
     wrong: &WrongOrder,
@@ -151,7 +151,7 @@ fn put_parts<R: Sink>(
     put_state_rest(layout, &wrong.reached, tally, report)
 }
 
-/// Puts the report of a wrong list of moves, whose last move retires this line.
+/// Writes the report of a wrong list of moves, whose last move retires this line.
 pub(crate) fn put_report<R: Sink>(
     layout: &LooseLayout,
     wrong: &WrongOrder,

@@ -64,7 +64,7 @@ nothing_shown limit plan start zero = refl
 nothing_shown limit plan start (suc n) =
     sym (rw (sym (nothing_shown limit plan start n), nothing_from limit plan (after (isa_of plan) start n)) refl)
 
--- so, over an input that does not tell what it has left, nothing is shown of the steps
+-- so, over an input that does not expose its remaining bytes, nothing is shown of the steps
 leads_by : (limit : ℕ) (plan : Plan) (start : Machine) (n : ℕ) (at : Machine) (written : List Line) → GoesTo (isa_of plan) start n at written →
     LeadsBy (silent limit plan) start n at []
 unfolding GoesTo LeadsBy

@@ -20,7 +20,7 @@ use Rattle.cli_machine.specs.Options.{chosen_of}
 abbrev pub run_start : Processor → Streams → Option (List ℕ) → RunPlace
 run_start core streams report = run_place_of core streams report no_tally
 
--- the answer is that of `machine` on the hart, under the same limit and with multiplication where the layout has it; it
+-- the answer is that of `machine` on the hart, under the same limit and with multiplication if the layout has it; it
 -- takes the same from the input and writes the same to the output, and this text closes its report
 pub record IsMachines (limit : ℕ) (plan : Plan) (hart : Hart) (before after : Streams) (answer : Status)
     (text : List ℕ) : Type 0 where
@@ -30,7 +30,8 @@ pub record IsMachines (limit : ℕ) (plan : Plan) (hart : Hart) (before after : 
 abbrev pub head_of : (limit : ℕ) → Scripted → Processor → Tally → List ℕ
 head_of limit finish last tally = head_text limit tally.moves finish last.state.retired ++ registers_text last.state.regs
 
--- where a run ends with Exit, Trap or Limit, its status, its output, its first line, its `retired` line and its registers are those of `machine`
+-- if a run ends with Exit, Trap or Limit, its status, its output, its first line, its `retired` line and its registers
+-- are those of `machine`
 abbrev pub AgreesWithMachine : (limit : ℕ) → Plan → Hart → (before after : Streams) → Scripted → Processor → Tally → Status → Type 0
 AgreesWithMachine limit plan hart before after (Ran (ran.Exit code)) last tally answer =
     IsMachines limit plan hart before after answer (head_of limit (Ran (ran.Exit code)) last tally)

@@ -1,4 +1,5 @@
-//! What the commands that run the processor share: the opened processor, the status of its run, and that it answers as `machine` does.
+//! Common to the commands that run the processor: the opened processor, the status of its run, and that it answers as
+//! `machine` does.
 #![tactic(auto)]
 
 mod opening;

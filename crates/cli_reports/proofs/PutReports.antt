@@ -1,4 +1,4 @@
--- The outcome of a command whose report was put, or failed.
+-- The outcome of a command whose report was written, or failed.
 use Rattle.std.proofs.Common.{◌≡◌, ℕ, List, [], ◌++◌, Bool, true, false, Option, Result, Ok, Err, refl, sym, ap, subst}
 use Rattle.cf_io.specs.Causes.{Rose, HasCause}
 use Rattle.cf_io.specs.declared.failed.Failed.{Failed}
@@ -21,7 +21,7 @@ pub shows-none : (blank full : Report) (text : List ℕ) (put : Result (Unit {0}
 shows-none blank full text put puts =
     record { told = blank.written; shows = writes-nothing blank.written; closes = puts }
 
--- an answer whose lines were put
+-- an answer whose lines were written
 pub answer-put : (answers : Status → List ℕ → Type 0) (answer : Status) (text : List ℕ) (blank full : Report)
     (reported : Reported) → reported.status ≡ answer → answers answer text → PutsReport blank full text reported.put →
     ReportsAlone answers blank full reported
@@ -51,7 +51,7 @@ decided-comes answers breaks blank half full (Err failed) (Err other) decides ca
   subst (λ (r : Report). Rose blank.faults r.faults) (sym same) cause.rose,
 )
 
--- a count beside it
+-- a count of faults that goes with it
 pub decided-tells : (answered : Status → Result (Unit {0}) (Unit {0})) (before now : ℕ) (half full : Report)
     (decided : Result Answer Failed) (result : Result Reported Failed) → FaultsCounted answered before now decided →
     PutsDecided decided half full result → FaultsReported answered before now result
@@ -67,7 +67,7 @@ decided-files half full (Ok answer) (Err failed) closes = absurd closes
 decided-files half full (Err failed) (Ok reported) closes = absurd closes
 decided-files half full (Err failed) (Err other) closes = refl
 
--- what is seen of a run of the outside and the report
+-- the part of the outside and the report that a run sees
 abbrev run_of : Outside → Report → RunSeen
 run_of outside report = record {
   streams = outside.streams;
@@ -86,7 +86,7 @@ faults-ran before after blank full result same ran = record {
   output = ran.output;
 }
 
--- where a file was missing nothing ran, and the answer says of neither stream that it failed
+-- if a file was missing nothing ran, and the answer does not say that a stream failed
 pub faults-refused : (before after : Outside) (answer : Status) (reported : Reported) → reported.status ≡ answer →
     HasCause before.file_faults after.file_faults (files_answered answer) → SaysNoStream answer →
     after.input_faults ≡ before.input_faults → after.output_faults ≡ before.output_faults → FaultsAre before after (Ok reported)
@@ -96,7 +96,7 @@ faults-refused before after answer reported same read none input output = record
   output = rw (same, output) (no-cause before.output_faults (output_answered answer) none.output);
 }
 
--- where a run was closed a count rose exactly where the status says so; where the report had failed, nothing else did
+-- if a run was closed, a count rose exactly if the status says so; if the report had failed, nothing else did
 pub closed-tells : (answered : Status → Result (Unit {0}) (Unit {0})) (cut : Bool) (said : Status)
     (cause : Result (Unit {0}) (Unit {0})) (lines : List ℕ) (half full : Report) (result : Result Reported Failed)
     (before now : ℕ) → (cut ≡ false → answered said ≡ cause) → (cut ≡ true → cause ≡ Ok tt) → PutsClosing cut said lines half full result →
@@ -106,7 +106,7 @@ closed-tells answered cut said cause lines half full (Ok reported) before now sa
 closed-tells answered cut said cause lines half full (Err failed) before now same alone (failed_first, closes) h =
     (subst (HasCause before now) (alone failed_first) h).still
 
--- a text was put after another, or one of them failed
+-- a text was written after another, or one of them failed
 pub adds : (blank half full : Report) (text more : List ℕ) (so_far put : Result (Unit {0}) Failed) →
     PutsReport blank half text so_far → Adds so_far half full more put → PutsReport blank full (text ++ more) put
 adds blank half full text more (Ok u) put puts more_puts = puts-again (text ++ more) refl refl puts more_puts

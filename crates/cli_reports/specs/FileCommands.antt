@@ -1,4 +1,4 @@
--- The answer of a command that reads one file and puts a text to the output, and what it leaves of the outside.
+-- The answer of a command that reads one file and writes a text to the output, and its effect on the outside.
 use Rattle.std.specs.Prelude.{◌≡◌, ℕ, List, [], codes, Option, Ok}
 use Rattle.cf_io.specs.Causes.{HasCause}
 use Rattle.cf_io.specs.Puts.{Writes, WritesFront}
@@ -14,7 +14,7 @@ use Rattle.cli_files.specs.declared.status.Status.{Status}
 use Rattle.cli_files.specs.declared.status.Status.TheVariants as status
 use Rattle.cli_files.specs.declared.status.Which.{Which}
 
--- what such a command deals with at one moment: the files, and what was written to the output
+-- what such a command sees at one moment: the files, and what was written to the output
 pub record FileSide : Type 0 where
   pub files : Option FilesSeen
   pub output : Option (List ℕ)
@@ -25,7 +25,7 @@ file_side files output = record { files = files; output = output }
 abbrev pub side_of : Outside → FileSide
 side_of outside = file_side outside.files outside.streams.output
 
--- the text was put to the output, and no report is made
+-- the text was written to the output, and there is no report
 pub record PutsOutput (text : List ℕ) (before after : Option (List ℕ)) (report : List ℕ) : Type 0 where
   pub put : Writes before after text
   pub reports : report ≡ []
@@ -35,14 +35,14 @@ pub record FailsText (text : List ℕ) (before after : Option (List ℕ)) (repor
   pub put : WritesFront before after text
   pub reports : report ≡ line (codes "write fault output")
 
--- the text was put to the output, or the output failed while it was put
+-- the text was written to the output, or the output failed while it was written
 abbrev pub PutsOrFails : List ℕ → Option (List ℕ) → Option (List ℕ) → Status → List ℕ → Type 0
 PutsOrFails text before after status.Done report = PutsOutput text before after report
 PutsOrFails text before after status.WriteFault report = FailsText text before after report
 PutsOrFails text before after _ report = ⊥
 
--- what a call that has the output alone leaves of it: the answer says neither of a file nor of the input that it failed, and the count of
--- the output's faults rose exactly if it says so
+-- the effect of a call that has only the output: the answer says neither that a file failed nor that the input did, and
+-- the count of the output's faults rose exactly if the answer says that the output failed
 pub record AnswersByOutput {K : Type 0} (Comes : Option (List ℕ) → Option (List ℕ) → Status → List ℕ → Type 0)
     (of_output : SinkMembers K) (before after : K) (answer : Answer) : Type 0 where
   pub comes : Comes (of_output.written before) (of_output.written after) answer.status answer.closing
@@ -54,7 +54,7 @@ pub record AnswersByOutput {K : Type 0} (Comes : Option (List ℕ) → Option (L
 abbrev pub side_in : {F K : Type 0} → FilesMembers F → SinkMembers K → F × K → FileSide
 side_in of_files of_output both = file_side (of_files.told both.0) (of_output.written both.1)
 
--- the same of a call that has the files too
+-- the same for a call that has the files too
 pub record AnswersByFile {F K : Type 0} (Answers : FileSide → FileSide → Status → List ℕ → Type 0) (of_files : FilesMembers F)
     (of_output : SinkMembers K) (before after : F × K) (answer : Answer) : Type 0 where
   pub answers : Answers (side_in of_files of_output before) (side_in of_files of_output after) answer.status answer.closing
@@ -62,7 +62,7 @@ pub record AnswersByFile {F K : Type 0} (Answers : FileSide → FileSide → Sta
   pub input : input_answered answer.status ≡ Ok tt
   pub output : HasCause (of_output.faults before.1) (of_output.faults after.1) (output_answered answer.status)
 
--- the file was read, and this comes of its bytes
+-- the file was read, and this is the outcome for its bytes
 pub record ComesOfFile
     (Comes : List ℕ → Option (List ℕ) → Option (List ℕ) → Status → List ℕ → Type 0)
     (most : ℕ) (name : List ℕ) (before after : FileSide) (answer : Status)
@@ -71,7 +71,7 @@ pub record ComesOfFile
   pub front : IsFrontOf most before.files after.files name bytes
   pub comes : Comes bytes before.output after.output answer report
 
--- the file gave no bytes, and the output was left alone
+-- the file gave no bytes, and the output was left unchanged
 abbrev pub RefusesFile : Which → List ℕ → List ℕ → FileSide → FileSide → Status → List ℕ → Type 0
 RefusesFile which reported name before after answer report =
     LacksBytes which reported name before.files after.files answer report

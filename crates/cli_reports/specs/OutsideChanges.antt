@@ -1,4 +1,4 @@
--- What the objects passed to a command expose, as it begins and as it ends.
+-- What the objects passed to a command expose before and after it.
 use Rattle.std.specs.Prelude.{ℕ}
 use Rattle.std.specs.Borrow.{MutBor}
 use Rattle.cf_io.specs.declared.files.Files.{Ghosts as FilesMembers}
@@ -36,7 +36,7 @@ run_seen of_input of_output of_report input output report = record {
   report = report_in of_report report;
 }
 
--- as it begins and as it ends
+-- the same before and after the run
 pub record RunChange : Type 0 where
   pub before : RunSeen
   pub after : RunSeen
@@ -58,7 +58,7 @@ pub record OutsideChange : Type 0 where
 abbrev pub change_of : (before after : Outside) → (blank full : Report) → OutsideChange
 change_of before after blank full = record { before = before; after = after; blank = blank; full = full }
 
--- of a command that is given its streams and its report as one value
+-- for a command that is given its streams and its report as one value
 abbrev pub outside_change : {F S K R U : Type 0} → FilesMembers F → SourceMembers S → SinkMembers K → SinkMembers R → F → F →
     RunStreams S K R → StreamsLeft S K R U → OutsideChange
 outside_change of_files of_input of_output of_report files files_left lent left =
@@ -66,7 +66,7 @@ outside_change of_files of_input of_output of_report files files_left lent left 
     (outside_seen of_files of_input of_output files_left (input_left left) (output_left left))
     (report_in of_report lent.report.now) (report_in of_report (report_left left))
 
--- of a call that is given them one by one
+-- for a call that is given them one by one
 abbrev pub call_change : {F S K R : Type 0} → FilesMembers F → SourceMembers S → SinkMembers K → SinkMembers R →
     F × (S × (K × R)) → F × (S × (K × R)) → OutsideChange
 call_change of_files of_input of_output of_report old new =

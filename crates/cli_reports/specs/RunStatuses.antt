@@ -6,7 +6,7 @@ use Rattle.cli_files.specs.declared.status.Status.{Status}
 use Rattle.cli_files.specs.declared.status.Status.TheVariants as status
 use Rattle.cli_files.specs.declared.status.Which.TheVariants as which
 
--- of a run that finished in this way under this limit, whether of the sequential machine or of the processor
+-- for a run that finished in this way under this limit, whether of the sequential machine or of the processor
 abbrev pub status_of_run : (limit : ℕ) → Answer → Status
 status_of_run limit (ran.Exit code) = status.Exit code
 status_of_run limit (ran.Trap cause pc detail) = status.Trap cause pc detail

@@ -1,5 +1,5 @@
-//! What the commands share: the streams that a command borrows, the text that it puts to the output, and the lines that close
-//! its report.
+//! Common to the commands: the streams that a command borrows, the text that it writes to the output, and the closing
+//! lines of its report.
 #![tactic(auto)]
 
 mod putting;

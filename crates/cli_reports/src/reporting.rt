@@ -1,4 +1,4 @@
-//! The outcome of a command once its report was put.
+//! The outcome of a command once its report was written.
 
 ghost use Rattle.std.specs.Prelude.{◌≡◌};
 ghost use Rattle.cli_files.specs.Outside.{report_in};
@@ -13,11 +13,11 @@ pub struct Reported {
     /// How it ended.
     pub status: Status,
 
-    /// Whether its whole report was put.
+    /// Whether its whole report was written.
     pub put: Result<(), Failed>,
 }
 
-/// Puts the lines that close a report.
+/// Writes the closing lines of a report.
 pub fn put_answer<R: Sink>(answer: Answer, report: &mut R) -> Reported
     ensures status { result.status ≡ answer.status }
     ensures puts { PutsInto R.Sink report.old report.new answer.closing result.put }

@@ -1,8 +1,8 @@
-//! The streams that a run is lent, as one value.
+//! The streams that a run borrows, as one value.
 
 use cf_io::{Sink, Source};
 
-/// What a run is lent besides the files: the program's input and output, and the report.
+/// What a run borrows besides the files: the program's input and output, and the report.
 #[derive(Drop)]
 pub struct RunStreams<'a, S: Source, K: Sink, R: Sink> {
     pub input: &'a mut S,

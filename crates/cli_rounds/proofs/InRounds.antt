@@ -46,7 +46,7 @@ run_of : (rule : GuessRule) (limit : ℕ) (every : Option ℕ) (core last : Proc
 run_of rule limit every core last before after blank told tally rounds c runs ends bounded =
     record { tally = tally; rounds = rounds; clocked = c; told = told; runs = runs; ends = ends; bounded = bounded }
 
--- where the report did not fail during the run, it has all that is said of the rounds
+-- if the report did not fail during the run, it has everything that is written of the rounds
 said-all : (every : Option ℕ) (s : State) (rounds : List (List Made)) (blank full : Option (List ℕ)) (c : Clocked) →
     is_report_fault (Ran (ran_of c)) ≡ false → Says every s rounds blank full c → Writes blank full (rounds_text every 0 0 s rounds)
 said-all every s rounds blank full (clocked.Exit status) sound says = says
@@ -56,7 +56,7 @@ said-all every s rounds blank full clocked.ReadFault sound says = says
 said-all every s rounds blank full clocked.WriteFault sound says = says
 said-all every s rounds blank full clocked.ReportFault sound says = absurd (cc)
 
--- the count of the report's faults stays where the report did not fail in the run, and rises where it did
+-- the count of the report's faults is unchanged if the report did not fail in the run, and rises if it did
 report-stays : (before now : ℕ) (c : Clocked) → is_report_fault (Ran (ran_of c)) ≡ false → HasCause before now (report_turned (Some c)) → now ≡ before
 report-stays before now (clocked.Exit status) sound h = h.still
 report-stays before now (clocked.Trap cause pc detail) sound h = h.still
@@ -73,7 +73,7 @@ report-rose before now clocked.Limit cut h = absurd (cc)
 report-rose before now clocked.ReadFault cut h = absurd (cc)
 report-rose before now clocked.WriteFault cut h = absurd (cc)
 
--- its closing lines were put, or failed, or its report had failed behind a round
+-- its closing lines were written, or failed, or its report had failed after a round
 closed-so : (rule : GuessRule) (limit : ℕ) (every : Option ℕ) (core last : Processor) (before after : Streams) (blank half full : Report)
     (tally : Tally) (rounds : ℕ) (c : Clocked) (result : Result Reported Failed) →
     RoundsRunRight rule limit every (run_start core before None) (run_place_of last after None tally) blank.written half.written rounds c →
@@ -123,7 +123,7 @@ rounds-closed rule limit every core last before after blank half full tally roun
     closed-so rule limit every core last before after blank half full tally rounds c result runs ends bounded cause
     (subst (λ (e : Answer). ClosesRounds limit e rounds last tally half full result) same closes)
 
--- the status says of the input and the output what the run says of them, and nothing of files
+-- about the input and the output the status says what the run says, and about files nothing
 input-clocked : (limit : ℕ) (c : Clocked) → input_answered (status_of_run limit (ran_of c)) ≡ input_turned (Some c)
 input-clocked limit (clocked.Exit status) = refl
 input-clocked limit (clocked.Trap cause pc detail) = refl
@@ -141,7 +141,7 @@ output-clocked limit clocked.ReadFault sound = refl
 output-clocked limit clocked.WriteFault sound = refl
 output-clocked limit clocked.ReportFault sound = absurd (cc)
 
--- where the report failed, neither of the two did
+-- if the report failed, neither of the two did
 input-works : (c : Clocked) → is_report_fault (Ran (ran_of c)) ≡ true → input_turned (Some c) ≡ Ok tt
 input-works (clocked.Exit status) cut = absurd (cc)
 input-works (clocked.Trap cause pc detail) cut = absurd (cc)
@@ -166,7 +166,7 @@ files-clocked limit clocked.ReadFault = refl
 files-clocked limit clocked.WriteFault = refl
 files-clocked limit clocked.ReportFault = refl
 
--- the same of the counts
+-- the same for the counts
 pub rounds-input : (limit : ℕ) (c : Clocked) (end : Answer) (rounds : ℕ) (last : Processor) (tally : Tally) (half full : Report)
     (result : Result Reported Failed) (before now : ℕ) → end ≡ ran_of c → ClosesRounds limit end rounds last tally half full result →
     HasCause before now (input_turned (Some c)) → FaultsReported input_answered before now result
@@ -191,7 +191,7 @@ rounds-files limit c end rounds last tally half full (Ok reported) same (sound, 
     rw (closes.status_is, same) (files-clocked limit c)
 rounds-files limit c end rounds last tally half full (Err failed) same closes = refl
 
--- on the processor of a layout, opened on a hart, it is what comes of both
+-- on the processor of a layout, opened on a hart, this is the outcome for the layout and the hart
 pub rounds-come : (rule : GuessRule) (limit : ℕ) (every : Option ℕ) (core last : Processor) (plan : Plan) (hart : Hart) (before after : Streams)
     (blank full : Report) (result : Result Reported Failed) → core ≡ opened_processor plan hart → hart.retired ≡ 0 →
     Comes (RunsCoreInRounds rule limit every core last before after blank.written)

@@ -1,4 +1,4 @@
--- What is put after a run in rounds that finished, and the outcome of the command.
+-- What is written after a run in rounds that finished, and the outcome of the command.
 use Rattle.std.specs.Prelude.{ℕ, Result}
 use Rattle.cf_io.specs.declared.failed.Failed.{Failed}
 use Rattle.cf_core.specs.Processors.{Processor}
@@ -11,7 +11,7 @@ use Rattle.cli_reports.specs.RunStatuses.{status_of_run}
 use Rattle.cli_reports.specs.Reporting.{PutsClosing}
 use Rattle.cli_reports.specs.declared.reporting.Reported.{Reported}
 
--- the closing lines were put where the report had not failed during the run; where it had, nothing more was put
+-- the closing lines were written if the report had not failed during the run; if it had, nothing more was written
 abbrev pub ClosesRounds : (limit : ℕ) → Answer → (rounds : ℕ) → Processor → Tally → (half full : Report) → Result Reported Failed → Type 0
 ClosesRounds limit finish rounds last tally half full result =
     PutsClosing (is_report_fault (Ran finish)) (status_of_run limit finish) (closing_in_rounds limit (Ran finish) rounds last.plan last.state tally)

@@ -20,8 +20,8 @@ fn is_cut(finish: Ran) -> bool
     matches!(finish, Ran::ReportFault)
 }
 
-/// Puts the closing lines after a run in this many rounds. It fails where the report failed during the run; nothing more is
-/// then put to the report.
+/// Writes the closing lines after a run in this many rounds. It fails if the report failed during the run; then nothing
+/// more is written to the report.
 pub fn close_in_rounds<R: Sink>(
     core: &Core,
     limit: u64,

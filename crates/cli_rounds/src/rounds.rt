@@ -33,7 +33,7 @@ fn ran_of(clocked: Clocked) -> Ran
     }
 }
 
-/// Runs the opened processor in rounds, and puts what is shown and the closing lines.
+/// Runs the opened processor in rounds, and writes what is shown and the closing lines.
 #[tactic(auto, using(cf_run::proofs::Opened::opened_cores))]
 fn run_core<S: Source, K: Sink, R: Sink>(
     opened: &mut Opened,
@@ -94,11 +94,11 @@ fn run_loaded<S: Source, K: Sink, R: Sink>(
     }
 }
 
-/// Carries out `rounds`: reads the layout and the program, in this order, runs the processor round after round under the
-/// guess rule, and puts how far the run has come after each `every` retired instructions, then how the run finished, how many
-/// instructions retired, how many rounds were made, the tally of their moves, the registers and the picture. A round whose
-/// call of the environment failed is not counted, nor its move. It fails where the report fails during the run; nothing more
-/// is then put to the report.
+/// Carries out `rounds`: reads the layout and the program, in this order, runs the processor round after round under
+/// the guess rule, and writes how far the run has come after each `every` retired instructions, then how the run
+/// finished, how many instructions retired, how many rounds were made, the tally of their moves, the registers and the
+/// picture. A round whose call of the environment failed is not counted, nor its move. It fails if the report fails
+/// during the run; then nothing more is written to the report.
 pub fn run_in_rounds<F: Files, S: Source, K: Sink, R: Sink>(
     alloc: Global,
     layout: LayoutArgument<'_>,

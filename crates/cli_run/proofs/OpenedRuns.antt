@@ -1,4 +1,4 @@
--- What comes of a processor that was opened and run.
+-- The outcome of opening and running a processor.
 use Rattle.std.proofs.Common.{◌≡◌, ℕ, List, [], ◌++◌, Option, Result, Ok, Err, refl, sym, ap, subst, ◌∙◌, inl, inr}
 use Rattle.run_options.specs.declared.reporting.Reporting.{Reporting}
 use Rattle.rv_machine.specs.Hart.{Hart}
@@ -72,7 +72,7 @@ runs-opened limit show tail last plan hart schedule before after blank answer sh
   closes = r.closes;
 }
 
--- what comes of the run, as it was seen
+-- the outcome of the run, as it was seen
 abbrev pub Opens : (limit : ℕ) (show : Reporting) (core last : Processor) → ReadySchedule → (before after : Streams) → (blank full : Report) →
     Result Reported Failed → Type 0
 Opens limit show core last schedule before after blank full result =
@@ -86,7 +86,7 @@ OpensWithTail limit show tail core last schedule before after blank full result 
     Comes (RunsWithTail limit show tail core last (chosen_by limit show schedule) before after blank.written)
     (BreaksCore limit show core (chosen_by limit show schedule) before after blank.written full.written) blank full result
 
--- once that was put
+-- once the tail was written
 pub tail-comes : (limit : ℕ) (show : Reporting) (tail : Tail) (core last : Processor) (schedule : ReadySchedule) (before after : Streams)
     (blank half full : Report)
     (reported later : Reported)
@@ -103,7 +103,7 @@ tail-comes limit show tail core last schedule before after blank half full repor
       adds-after blank half full run.0 text (tail_text tail reported.status last) reported.put later.put run.3 added,
     )
 
--- is what comes of the layout, the hart and the schedule
+-- this is the outcome for the layout, the hart and the schedule
 on-opened : (limit : ℕ) (show : Reporting) (tail : Tail) (last : Processor) (plan : Plan) (hart : Hart) (schedule : ReadySchedule) (before after : Streams)
     (blank full : Report) (result : Result Reported Failed) → hart.retired ≡ 0
     → OpensWithTail limit show tail (opened_processor plan hart) last schedule before after blank full result

@@ -1,4 +1,4 @@
--- A run of the processor, its closing lines, and what the report then has.
+-- A run of the processor, its closing lines, and what its report has after it.
 use Rattle.std.proofs.Common.{◌≡◌, ◌≤◌, ◌-◌, ℕ, List, Bool, true, false, Option, Some, Result, Ok, Err, refl, sym, ap, subst, ◌∙◌}
 use Rattle.run_options.specs.declared.guess_rule.GuessRule.{GuessRule}
 use Rattle.run_options.specs.declared.reporting.Reporting.{Reporting}
@@ -33,7 +33,7 @@ use Rattle.cli_processor.specs.Statuses.{status_of}
 use Rattle.cli_reports.specs.declared.reporting.Reported.{Reported}
 use Rattle.cli_reports.proofs.PutReports.{closed-tells}
 
--- what the report has where the run stops at the stand that it reached
+-- what the report has if the run stops at the place that it reached
 stays : (blank : Option (List ℕ)) (now new : ScriptRun) (lines : List ℕ) →
     Writes blank now.place.report lines → new ≡ now → Writes blank new.place.report lines
 stays blank now new lines put same =
@@ -100,7 +100,7 @@ run_of limit show core last by before after blank told tally finish trace moves 
   ends = ends;
 }
 
--- the count of the report's faults stays where the report did not fail in the run, and rises where it did
+-- the count of the report's faults is unchanged if the report did not fail in the run, and rises if it did
 pub report-stays : (before now : ℕ) (finish : Scripted) → is_report_fault finish ≡ false →
     HasCause before now (report_scripted (Some finish)) → now ≡ before
 report-stays before now (Ran (ran.Exit code)) sound h = h.still
@@ -133,7 +133,7 @@ stopped-report ran.ReadFault = refl
 stopped-report ran.WriteFault = refl
 stopped-report ran.ReportFault = refl
 
--- its closing lines were put, or failed, or its report had failed at a move
+-- its closing lines were written, or failed, or its report had failed at a move
 run-closed : (limit : ℕ) (show : Reporting) (core last : Processor) (by : RunRelation) (before after : Streams)
     (blank half full : Report) (tally : Tally) (finish : Scripted) (trace : List Made) (moves : List Move)
     (result : Result Reported Failed) →
@@ -216,7 +216,7 @@ policy-closed rule picked onward limit show core last policy later before after 
     (λ sound. policy-shown rule picked onward limit show _ _ policy later r.moves answer r.runs sound)
     (rw (stopped-report answer) at cause) closes
 
--- the status says of the input and the output what the run says of them
+-- about the input and the output the status says what the run says
 pub input-said : (limit moves : ℕ) (finish : Scripted) →
     input_answered (status_of limit moves finish) ≡ input_scripted (Some finish)
 input-said limit moves (Ran (ran.Exit code)) = refl
@@ -241,7 +241,7 @@ output-said limit moves ScriptEnd sound = refl
 output-said limit moves (BadScript refusal) sound = refl
 output-said limit moves (BarredAt line bar) sound = refl
 
--- where the report failed, neither did
+-- if the report failed, neither of them did
 input-works : (finish : Scripted) → is_report_fault finish ≡ true → input_scripted (Some finish) ≡ Ok tt
 input-works (Ran ran.ReportFault) cut = refl
 input-works (Ran (ran.Exit code)) cut = absurd (cc)
@@ -264,7 +264,7 @@ output-works ScriptEnd cut = absurd (cc)
 output-works (BadScript refusal) cut = absurd (cc)
 output-works (BarredAt line bar) cut = absurd (cc)
 
--- so where a run was closed a count rose exactly where the answer says so
+-- so if a run was closed, a count rose exactly if the answer says so
 pub closed-input : (limit : ℕ) (finish : Scripted) (last : Processor) (tally : Tally) (half full : Report)
     (result : Result Reported Failed) (before now : ℕ) → ClosesCore limit finish last tally half full result →
     HasCause before now (input_scripted (Some finish)) → FaultsReported input_answered before now result
@@ -281,7 +281,7 @@ closed-output limit finish last tally half full result before now closes h =
     (closing limit finish last.plan last.state tally) half full result before now (λ sound. output-said limit tally.moves finish sound)
     (λ cut. output-works finish cut) closes h
 
--- it says nothing of files
+-- it says nothing about files
 files-said : (limit moves : ℕ) (finish : Scripted) → files_answered (status_of limit moves finish) ≡ Ok tt
 files-said limit moves (Ran (ran.Exit code)) = refl
 files-said limit moves (Ran (ran.Trap cause pc detail)) = refl

@@ -1,4 +1,4 @@
--- What comes of the files of a run.
+-- The outcome for the files of a run.
 use Rattle.std.proofs.Common.{◌≡◌, ℕ, List, [], Option, Ok, Result, Err, sym, subst, inl, inr}
 use Rattle.cf_io.specs.declared.failed.Failed.{Failed}
 use Rattle.rv_machine.specs.Hart.{Hart}
@@ -14,7 +14,7 @@ use Rattle.cli_reports.specs.declared.reporting.Reported.{Reported}
 use Rattle.cli_run.specs.declared.tail.Tail.{Tail}
 use Rattle.cli_reports.proofs.PutReports.{shows-none}
 
--- what comes of the files is the outcome of the command that reads them
+-- the outcome for the files is that of the command that reads them
 pub run-comes : (tail : Tail) (asked : RunAsked) (before after : Outside) (plan : Plan) (hart : Hart)
     (schedule : ReadySchedule) (blank full : Report) (result : Result Reported Failed) →
     RunFilesRead asked before.files after.files plan hart schedule →

@@ -1,4 +1,4 @@
--- What the commands `run` and `moves` answer, and what they leave of the outside.
+-- The answers of the commands `run` and `moves`, and their effect on the outside.
 use Rattle.std.specs.Prelude.{◌≡◌, ◌≤◌, ◌-◌, ◌⊎◌, ℕ, List, ◌++◌, true, false, Option, None}
 use Rattle.run_options.specs.declared.guess_rule.GuessRule.{GuessRule}
 use Rattle.run_options.specs.declared.reporting.Reporting.{Reporting}
@@ -44,7 +44,8 @@ pub record ByScript (limit : ℕ) (show : Reporting) (text : List ℕ) (start ne
   pub trace_is : trace ≡ runs.follows.reaches.trace
   pub moves_are : moves ≡ first_moves (script_of text) new.tally
 
--- by a policy, offered the moves that the guess rule keeps, whose picks are at most 4 N K (r + 1) moves where r instructions retire
+-- by a policy, offered the moves that the guess rule keeps; it makes at most 4 N K (r + 1) moves if r instructions
+-- retire
 pub record ByPolicy {P : Type 0} (rule : GuessRule) (picked : P → List Move → ℕ) (onward : P → List Move → P) (limit : ℕ)
     (show : Reporting) (policy : P) (start new : RunPlace) (finish : Scripted) (trace : List Made)
     (moves : List Move) : Type 0 where
@@ -61,9 +62,8 @@ chosen_by limit show (in_script text) = ByScript limit show text
 chosen_by limit show (drawn_from seed rule) = ByPolicy rule drawn_pick (λ g moves. drawn_on g) limit show (drawn_from_seed seed)
 chosen_by limit show (in_turn rule) = ByPolicy rule round_pick round_on limit show None
 
--- a run from one processor to another: what was counted, how it finished, and what the report tells before and after
--- it; by its moves it is a run of the sequential machine on which the processor was opened, and ends as that machine
--- does
+-- a run from one processor to another: the counts, how it finished, and what the report exposes before and after it. By
+-- its moves it is a run of the sequential machine on which the processor was opened, and ends as that machine does
 pub record ProcessorRun (limit : ℕ) (show : Reporting) (core last : Processor) (by : RunRelation)
     (before after : Streams) (blank : Option (List ℕ)) : Type 0 where
   pub tally : Tally
@@ -75,7 +75,8 @@ pub record ProcessorRun (limit : ℕ) (show : Reporting) (core last : Processor)
   pub sequential : RunsSequentially show moves (run_start core before blank) (run_place_of last after told tally) finish
   pub ends : EndsSequentially limit (run_start core before blank) (run_place_of last after told tally) finish
 
--- the processor was run in this way; the status says how the run finished, this was shown of its moves, and these lines close the report
+-- the processor was run in this way; the status says how the run finished, this was shown of its moves, and these are
+-- the closing lines of the report
 pub record RunsCore (limit : ℕ) (show : Reporting) (core last : Processor) (by : RunRelation)
     (before after : Streams) (blank : Option (List ℕ)) (answer : Status) (shown text : List ℕ) : Type 0 where
   pub run : ProcessorRun limit show core last by before after blank
@@ -84,7 +85,7 @@ pub record RunsCore (limit : ℕ) (show : Reporting) (core last : Processor) (by
   pub shows : shown ≡ all_shown show core.plan 1 run.trace
   pub closes : text ≡ closing limit run.finish last.plan last.state run.tally
 
--- the processor was run to this one, and the tail follows the lines that close the report
+-- the processor was run to this one, and the tail follows the closing lines of the report
 pub record RunsWithTail (limit : ℕ) (show : Reporting) (tail : Tail) (core last : Processor) (by : RunRelation)
     (before after : Streams) (blank : Option (List ℕ)) (answer : Status) (shown closing : List ℕ) : Type 0 where
   pub text : List ℕ
@@ -101,7 +102,8 @@ IsComplete schedule (status.ReadFault which.Input) = Unit {0}
 IsComplete schedule status.WriteFault = Unit {0}
 IsComplete schedule answer = ⊥
 
--- the processor of the layout, opened on the hart, was run to this one, and the tail follows the lines that close the report
+-- the processor of the layout, opened on the hart, was run to this one, and the tail follows the closing lines of the
+-- report
 pub record RunsOpened (limit : ℕ) (show : Reporting) (tail : Tail) (plan : Plan) (hart : Hart) (last : Processor)
     (schedule : ReadySchedule) (before after : Streams) (blank : Option (List ℕ)) (answer : Status)
     (shown closing : List ℕ) : Type 0 where
@@ -111,14 +113,14 @@ pub record RunsOpened (limit : ℕ) (show : Reporting) (tail : Tail) (plan : Pla
   pub complete : IsComplete schedule answer
   pub closes : closing ≡ text ++ tail_text tail answer last
 
--- what comes of a layout, a hart and a schedule: the processor of that layout, opened on the hart, was run
+-- the outcome for a layout, a hart and a schedule: the processor of that layout, opened on the hart, was run
 abbrev pub ComesOf : ℕ → Reporting → Tail → Plan → Hart → ReadySchedule → Streams → Streams → Option (List ℕ) → Status →
     (shown closing : List ℕ) → Type 0
 ComesOf limit show tail plan hart schedule before after blank answer shown closing =
     ((last : Processor) × RunsOpened limit show tail plan hart last schedule before after blank answer shown closing)
     ⊎ LacksProcessor before after answer (shown ++ closing)
 
--- the processor was run in this way, and the report failed as the run showed a move: nothing more was put to it
+-- the processor was run in this way, and the report failed as the run showed a move: nothing more was written to it
 pub record BreaksCore (limit : ℕ) (show : Reporting) (core : Processor) (by : RunRelation)
     (before after : Streams) (blank full : Option (List ℕ)) : Type 0 where
   pub last : Processor
@@ -126,14 +128,15 @@ pub record BreaksCore (limit : ℕ) (show : Reporting) (core : Processor) (by : 
   pub cut : is_report_fault run.finish ≡ true
   pub told : full ≡ run.told
 
--- the answer of `run`, or of `moves` with its tail, what it shows, and the lines that close its report, after what the report told before
+-- the answer of `run`, or of `moves` with its tail, what it shows, and the closing lines of its report, after its text
+-- so far
 abbrev pub AnswersRun : Tail → RunAsked → Outside → Outside → Option (List ℕ) → Status → (shown closing : List ℕ) → Type 0
 AnswersRun tail asked before after blank answer shown closing =
     AnswersFiles (λ plan hart schedule.
     ComesOf asked.limit asked.reporting tail plan hart schedule before.streams after.streams blank answer shown closing)
     asked before after answer (shown ++ closing)
 
--- all files are there, and the report failed during the run
+-- all files were found, and the report failed during the run
 abbrev pub BreaksRun : RunAsked → Outside → Outside → Option (List ℕ) → Option (List ℕ) → Type 0
 BreaksRun asked before after blank full =
     ReadsRunFiles (λ plan hart schedule.

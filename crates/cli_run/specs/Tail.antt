@@ -7,7 +7,7 @@ use Rattle.cli_files.specs.declared.status.Status.TheVariants as status
 use Rattle.cli_run.specs.declared.tail.Tail.{Tail}
 use Rattle.cli_run.specs.declared.tail.Tail.TheVariants as tail
 
--- under `moves`, where the script has no further move, which moves can be made; else nothing
+-- under `moves`, if the script has no further move, which moves can be made; otherwise nothing
 abbrev pub tail_text : Tail → Status → Processor → List ℕ
 tail_text tail.Moves (status.ScriptEnd moves) last = moves_text last.plan last.state
 tail_text tail.Moves answer last = []

@@ -16,9 +16,10 @@ use cli_processor::no_moves;
 use cli_reports::{Reported, RunStreams};
 use run_options::GuessRule;
 
-/// Runs the opened processor by the picks of a policy from the moves that the guess rule keeps, and puts what is shown
-/// and the closing lines.
-// A call of its own, with the policy as a local, so that the compiler makes a loop for each policy and keeps its state in registers.
+/// Runs the opened processor by the picks of a policy from the moves that the guess rule keeps, and writes what is
+/// shown and the closing lines.
+// A separate function, with the policy as a local, so that the compiler makes a loop for each policy and keeps its
+// state in registers.
 #[inline(never)]
 pub fn run_by_policy<P: Policy + Drop, S: Source, K: Sink, R: ReportSink>(
     core: &mut Core,

@@ -17,9 +17,9 @@ use cli_processor::no_moves;
 use cli_reports::{Reported, RunStreams};
 use run_options::GuessRule;
 
-/// Runs the opened processor by the rule, from the moves that the guess rule keeps, and puts what is shown
-/// and the closing lines.
-// A call of its own, with the rule as a local, so that the compiler keeps its state in registers.
+/// Runs the opened processor by the rule, from the moves that the guess rule keeps, and writes what is shown and the
+/// closing lines.
+// A separate function, with the rule as a local, so that the compiler keeps its state in registers.
 #[inline(never)]
 pub fn run_by_rule<S: Source, K: Sink, R: ReportSink>(
     core: &mut Core,

@@ -16,8 +16,8 @@ use cli_processor::no_moves;
 use cli_reports::{Reported, RunStreams};
 use run_scripts::Script;
 
-/// Runs the processor by the moves of a text, and puts what is shown and the closing lines.
-// A call of its own, so that the compiler makes this loop apart from those of the policies.
+/// Runs the processor by the moves of a text, and writes what is shown and the closing lines.
+// A separate function, so that the compiler makes this loop separately from those of the policies.
 #[inline(never)]
 pub fn run_by_script<S: Source, K: Sink, R: ReportSink>(
     core: &mut Core,

@@ -33,7 +33,8 @@ fn status_of(limit: u64, moves: u64, finish: Scripted) -> Status
     }
 }
 
-/// Puts the closing lines after a run. It fails where the report failed during the run; nothing more is then put to the report.
+/// Writes the closing lines after a run. It fails if the report failed during the run; then nothing more is written to
+/// the report.
 pub fn close<R: Sink>(
     core: &Core,
     limit: u64,

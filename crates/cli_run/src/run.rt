@@ -58,7 +58,7 @@ fn run_scheduled<S: Source, K: Sink, R: ReportSink>(
     }
 }
 
-/// Runs the opened processor by what was read, and puts what is to follow its report.
+/// Runs the opened processor by what was read, and writes the tail after its report.
 fn run_opened<S: Source, K: Sink, R: ReportSink>(
     opened: &mut Opened,
     schedule: &ReadySchedule,
@@ -93,7 +93,7 @@ fn run_opened<S: Source, K: Sink, R: ReportSink>(
     Ok(add_tail(tail, &opened.core, reported, report))
 }
 
-/// Opens the processor of the layout on the machine, runs it by what was read, and puts what is to follow its report.
+/// Opens the processor of the layout on the machine, runs it by what was read, and writes the tail after its report.
 pub fn run_ready<S: Source, K: Sink, R: ReportSink>(
     alloc: Global,
     ready: ReadyRun,
@@ -115,11 +115,11 @@ pub fn run_ready<S: Source, K: Sink, R: ReportSink>(
     }
 }
 
-/// Carries out `run` and `moves`. It reads the layout, the program and the script, where the arguments name one, in this
-/// order. It runs the processor by the script, by moves drawn from the seed, or by the fixed rule, the latter two under a
-/// guess rule. It puts what is to be shown, then how the run finished, how many instructions retired, the tally of its
-/// moves, the registers and the picture, and after that the tail. It fails where the report fails during the run; nothing
-/// more is then put to the report.
+/// Carries out `run` and `moves`. It reads the layout, the program and, if the arguments name one, the script, in this
+/// order. It runs the processor by the script, by moves drawn from the seed, or by the fixed rule, the latter two under
+/// a guess rule. It writes what is to be shown, then how the run finished, how many instructions retired, the tally of
+/// its moves, the registers and the picture, and after that the tail. It fails if the report fails during the run; then
+/// nothing more is written to the report.
 pub fn run_processor<F: Files, S: Source, K: Sink, R: ReportSink>(
     alloc: Global,
     layout: LayoutArgument<'_>,

@@ -17,11 +17,11 @@ pub enum Tail {
     /// Nothing.
     Nothing,
 
-    /// Where the script has no further move, which moves can be made.
+    /// If the script has no further move, which moves can be made.
     Moves,
 }
 
-/// Puts the lines of the tail after a run of this status.
+/// Writes the lines of the tail after a run of this status.
 fn put_tail<R: Sink>(tail: Tail, status: &Status, core: &Core, report: &mut R) -> Result<(), Failed>
     ensures { PutsInto R.Sink report.old report.new (tail_text tail status.now core.now) result }
 {
@@ -34,7 +34,7 @@ fn put_tail<R: Sink>(tail: Tail, status: &Status, core: &Core, report: &mut R) -
     }
 }
 
-/// Puts them where the report has been put so far.
+/// Writes the tail, if the report has been written so far.
 pub fn add_tail<R: Sink>(tail: Tail, core: &Core, reported: Reported, report: &mut R) -> Reported
     ensures status { result.status ≡ reported.status }
     ensures adds { Adds reported.put (report_in R.Sink report.old)

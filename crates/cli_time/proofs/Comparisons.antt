@@ -1,4 +1,4 @@
--- What comes of the lines of all layouts, and of the line after them.
+-- The outcome for the lines of all layouts, and for the line after them.
 use Rattle.std.proofs.Common.{◌≡◌, ◌∙◌, ◌≤◌, sym, ap, subst, ℕ, List, [], ◌++◌, append-nil, Option, Some, Result, Ok, Err, inl, inr, arith}
 use Rattle.cf_timed.specs.declared.span.Span.{Span}
 use Rattle.std.specs.Prelude.{codes, slice_get}
@@ -44,7 +44,7 @@ measures-all arguments options delays plans start blank told times place named h
   named_is = is;
 }
 
--- it was named
+-- the layout was named
 pub times-all : (arguments : List NamedLayout) (options : RunChoices) (delays : List Span) (plans : List Plan) (start : Machine) (blank told full : Option (List ℕ))
     (times : List ℕ) (place : ℕ) (named : NamedLayout) (answer : Answer) → PutsAll arguments options delays plans start blank told times →
     IsFirstLeast times place → slice_get arguments place ≡ Some named → Writes told full (least_line named) →
@@ -90,7 +90,7 @@ times-broken {T = T} {E = E} arguments options delays plans start blank told ful
     let q : PutsText {T = T} {E = E} told full i j (least_line named) (Err e) = rw was at puts in
     times-break arguments options delays plans start blank told full times place named h least is q.front
 
--- it was named, and that is all
+-- the layout was named, and nothing else follows
 pub times-named : {T E : Type 0} (arguments : List NamedLayout) (options : RunChoices) (delays : List Span) (plans : List Plan) (start : Machine)
     (blank told full : Option (List ℕ)) (i j : ℕ) (times : List ℕ) (place : ℕ) (named : NamedLayout) (r : Result T E) (t : T) (answer : Answer) →
     PutsAll arguments options delays plans start blank told times → IsFirstLeast times place → slice_get arguments place ≡ Some named →
@@ -118,7 +118,7 @@ times-fewer arguments options delays plans start blank full place answer h is cl
       }),
     )
 
--- what comes of the files is what the command answers
+-- the outcome for the files is what the command answers
 pub answers-time : (asked : TimeAsked) (before after : Option FilesSeen) (delays : List Span) (plans : List Plan) (hart : Hart) (bytes : List ℕ)
     (blank full : Option (List ℕ)) (result : Result Answer Failed) →
     TimeInputRead asked.files asked.input before after delays plans hart bytes →

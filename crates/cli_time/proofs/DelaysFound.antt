@@ -1,4 +1,4 @@
--- Delays that a file gives, or that it does not.
+-- Delays that a file gives or does not give.
 use Rattle.std.proofs.Common.{◌≡◌, ◌≤◌, ℕ, ◌+◌, List, length, Option, Result, Ok, Err, IfOk, IfErr, inl}
 use Rattle.cf_timed.specs.declared.span.Span.{Span}
 use Rattle.cf_io.specs.Reads.{FilesSeen}

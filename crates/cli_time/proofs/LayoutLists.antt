@@ -23,7 +23,7 @@ layouts-next (w ∷ arguments) [] argument plan a b c all h = absurd all
 layouts-next (w ∷ arguments) (p ∷ plans) argument plan a b c (m, first, more) h =
     (m, first, layouts-next arguments plans argument plan m b c more h)
 
--- the first of those after them that is not there
+-- the first of those after them that is missing
 pub lacks-after : (arguments more : List NamedLayout) (plans : List Plan) (a b c : Option FilesSeen) (answer : Status) (report : List ℕ) →
     AreLayoutsAt arguments a b plans → LacksLayouts more b c answer report → LacksLayouts (arguments ++ more) a c answer report
 lacks-after [] more [] a b c answer report same h =
@@ -86,7 +86,7 @@ pub plan-there : (plans seen : List Plan) (i : ℕ) (plan : Plan) → i < length
 plan-there plans seen i plan within is at_plan =
     there-at plans i plan within (subst (λ (ps : List Plan). plan ≡ slice_index_or ps i plan) is at_plan)
 
--- the layout beside an argument
+-- the layout of an argument
 pub plan-at : (arguments : List (String Global)) (plans seen : List Plan) (i : ℕ) (argument : NamedLayout) (plan : Plan) →
     slice_get (map layout_in (map string_bytes arguments)) i ≡ Some argument → length arguments ≡ length plans → seen ≡ plans →
     plan ≡ slice_index_or seen i plan → slice_get plans i ≡ Some plan

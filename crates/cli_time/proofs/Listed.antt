@@ -1,4 +1,4 @@
--- The texts of the first of some things, one after another, and that of the next one.
+-- The texts of the first of some things, one after another, and the text of the next one.
 use Rattle.std.proofs.Common.{◌≡◌, ◌∙◌, ℕ, zero, suc, ◌+◌, ◌-◌, ◌<◌, ◌≤◌, List, [], ◌∷◌, ◌++◌, length, take, drop, Some, refl, ap, sym, arith}
 use Rattle.std.specs.Prelude.{reverse, slice_get}
 use Rattle.std.specs.List.{flat_map}
@@ -7,7 +7,7 @@ use Rattle.std.proofs.lemmas.List.Concat.{flat_map-append}
 use Rattle.cf_semantics.specs.moves.Candidates.{counted_from}
 use Rattle.cli_time.proofs.Lists.{take-next}
 
--- with the text of the next one there are those of one more
+-- with the text of the next one these are the texts of one more
 pub texts-next : {A : Type 0} (f : A → List ℕ) (xs : List A) (i : ℕ) (x : A) → slice_get xs i ≡ Some x →
     flat_map f (take i xs) ++ f x ≡ flat_map f (take (i + 1) xs)
 texts-next f xs i x e = flat_map_more f [] (take i xs) x ∙ ap (flat_map f) (sym (take-next xs i x e))
@@ -22,7 +22,7 @@ texts-after f xs i x e =
           ∙ (sym (flat_map-append f (take (i + 1) xs) (drop (i + 1) xs)) ∙ ap (flat_map f) (take-append-drop (i + 1) xs)),
     )
 
--- after the last one all are there
+-- after the last one, all texts are there
 pub texts-all : {A : Type 0} (f : A → List ℕ) (xs : List A) (i : ℕ) → length xs ≤ i → flat_map f (take i xs) ≡ flat_map f xs
 texts-all f xs i h = ap (flat_map f) (take_all i xs h)
 
@@ -49,7 +49,7 @@ counted-last a (suc n) =
     let e : suc a + n ≡ a + suc n = omega arith in
     ap (λ (ns : List ℕ). a ∷ ns) (counted-last (suc a) n ∙ ap (λ (k : ℕ). counted_from (suc a) n ++ k ∷ []) e)
 
--- the same from the last one down
+-- the same, backwards from the last one
 falling : (n : ℕ) → reverse (counted_from 1 (suc n)) ≡ suc n ∷ reverse (counted_from 1 n)
 falling n =
     let e : 1 + n ≡ suc n = omega arith in

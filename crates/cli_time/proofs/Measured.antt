@@ -49,14 +49,14 @@ as-machine limit hart begin new timed.Limit causes h = h
 as-machine limit hart begin new timed.ReadFault causes h = absurd (never-rises tt (Err tt) refl causes.of_input)
 as-machine limit hart begin new timed.WriteFault causes h = absurd (never-rises tt (Err tt) refl causes.of_output)
 
--- the greatest time is the last of the moves
+-- the maximum time is the latest of the moves
 time-told : (rule : DelayRule) (core : Processor) (trace : List Made) (clock : SiteTimes) →
     ClockKnows core.plan rule (timed_moves core.plan rule (visits_of core.state trace)) clock →
     clock.latest ≡ greatest_time (moves_with_times core.plan (moves_by rule core.plan core trace))
 unfolding moves_with_times timed_after delays_of
 time-told rule core trace clock told = told.latest_is
 
--- so this was taken of an opened processor
+-- so this was measured of an opened processor
 pub takes : (rule : DelayRule) (options : RunChoices) (core last : Processor) (bytes left : List ℕ) (clock : SiteTimes) (measured : Measured) (shown : List ℕ) →
     (runs : RunsTimed options.rule rule options.limit (begins core (over bytes)) last (over left) clock measured.moves measured.answer) →
     measured.time ≡ clock.latest → measured.retired ≡ last.state.retired →
@@ -88,7 +88,7 @@ takes-time rule options core last bytes left clock measured shown runs time reti
     (none ∙ ap (λ (show : TimeShow). made_of show core.plan (seen_by rule core.plan core runs.right.runs.reaches.trace)) (sym shown))
     (ap (λ (show : TimeShow). lines_of show rule (begins core (over bytes)) runs.right.runs.reaches.trace) (sym shown))
 
--- the ledger tells of the same run
+-- the ledger reports on the same run
 pub takes-sites : (rule : DelayRule) (options : RunChoices) (core last : Processor) (bytes left : List ℕ) (clock : SiteTimes) (ledger : RunLedger)
     (measured : Measured)
     (made : Breakdown) → options.show ≡ shows.Sites →
@@ -162,7 +162,7 @@ breaks used delays options core plan start blank full same is h =
     subst (λ (r : DelayRule). BreaksTaking r options (opened_processor plan start.hart) start.rest blank full) same
     (subst (λ (p : Processor). BreaksTaking used options p start.rest blank full) is h)
 
--- the clock is a clock of the processor's layout and of the delays that was told of no move
+-- the clock is a clock of the processor's layout and of the delays, and has seen no move
 pub clock-rule : (plan : Plan) (rule : DelayRule) (clock : SiteTimes) → clock ≡ started plan rule → rule_of_clock clock ≡ rule
 unfolding started drawn_from
 clock-rule plan rule clock e = ap rule_of_clock e

@@ -1,5 +1,5 @@
--- Where a file other than the program's input is lacking, the answer says of neither the input nor the output that it failed; so
--- its cause is the same whether the input counts as a file or not.
+-- If a file other than the program's input is missing, the answer says neither that the input failed nor that the
+-- output did, so its cause is the same whether or not the input counts as a file.
 use Rattle.std.proofs.Common.{◌≡◌, ℕ, List, [], ◌∷◌, Option, Result, Ok, refl, sym, subst, inl, inr}
 use Rattle.cf_io.specs.Causes.{HasCause}
 use Rattle.cf_io.specs.Reads.{FilesSeen}
@@ -42,7 +42,8 @@ lacks-file-says asked before after answer report (inr (inl h)) =
 lacks-file-says asked before after answer report (inr (inr h)) =
     lacks-program-says asked.program h.between after answer report h.lacks
 
--- where the input is not what could not be read, it is the same whether the input counts as a file or not
+-- if the answer does not say that the input could not be read, its cause is the same whether or not the input counts as
+-- a file
 pub same-files : (answer : Status) → input_answered answer ≡ Ok tt → reading_answered answer ≡ files_answered answer
 same-files (status.ReadFault which.Layout) h = refl
 same-files (status.ReadFault which.Program) h = refl
@@ -72,7 +73,7 @@ same-files (status.TooMany most) h = refl
 same-files status.WriteFault h = refl
 same-files status.NoMemory h = refl
 
--- so a count that tells of a file that could not be read tells the same
+-- so the count of faults of the files is the same, whether or not the input counts as a file
 pub counts-file : (before now : ℕ) (asked : TimeFiles) (a b : Option FilesSeen) (answer : Answer) →
     LacksTimeFile asked a b answer.status answer.closing →
     HasCause {T = Unit {0}} {E = Unit {0}} before now (files_answered answer.status) →

@@ -70,7 +70,7 @@ rows-start arguments options delays plans start blank faults times none = record
   still = refl;
 }
 
--- the next line was put
+-- the next line was written
 put-next : (arguments : List NamedLayout) (options : RunChoices) (delays : List Span) (plans : List Plan) (start : Machine)
     (blank told full : Option (List ℕ)) (before now later : ℕ) (place : ℕ) (times more : List ℕ) (argument : NamedLayout) (plan : Plan) (next : TakenRun) →
     RowsPut arguments options delays plans start blank told before now place times →
@@ -106,7 +106,7 @@ rows-next arguments options delays plans start blank told between full before no
     (Err e) failed h at_argument at_plan measures kept puts is none pushed =
     absurd (cc)
 
--- all were
+-- all lines were written
 pub rows-all : (arguments : List NamedLayout) (options : RunChoices) (delays : List Span) (plans : List Plan) (start : Machine)
     (blank told : Option (List ℕ)) (before now : ℕ) (place : ℕ) (times : List ℕ) →
     RowsPut arguments options delays plans start blank told before now place times → place ≡ length plans →
@@ -201,6 +201,6 @@ rows-cause told full before now later text (Err e) failed puts is some still = r
   still = tt;
 }
 
--- and stays where it did not
+-- and is unchanged if it did not fail
 pub rows-still : (before now : ℕ) → now ≡ before → HasCause {T = Unit {0}} {E = Unit {0}} before now (Ok tt)
 rows-still before now still = record { never_falls = omega (arith, still); rose = tt; still = still }

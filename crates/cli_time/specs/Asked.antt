@@ -9,7 +9,7 @@ pub record TimeFiles : Type 0 where
   pub program : List ℕ
   pub layouts : List NamedLayout
 
--- what is read, the file with the program's input, where one is named, and how each run is made
+-- what is read, the file with the program's input, if one is named, and how each run is made
 pub record TimeAsked : Type 0 where
   pub files : TimeFiles
   pub input : Option (List ℕ)
@@ -18,7 +18,7 @@ pub record TimeAsked : Type 0 where
 abbrev pub files_asked : List ℕ → List ℕ → List NamedLayout → TimeFiles
 files_asked delays program layouts = record { delays = delays; program = program; layouts = layouts }
 
--- how the runs are made by what the arguments ask
+-- how the runs are made, by what the arguments ask for
 unfoldable pub choices_by : TimeChoices → RunChoices
 choices_by options = record {
   limit = options.limit;

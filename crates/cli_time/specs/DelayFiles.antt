@@ -12,14 +12,15 @@ use Rattle.cli_files.specs.declared.status.Status.TheVariants as status
 use Rattle.cli_files.specs.declared.status.Which.TheVariants as which
 use Rattle.report_refusals.specs.Delays.{bad_delays}
 
--- the file's first bytes, one more than it may have, are not too many, and give these
+-- these delays are in a text that came from a read of up to one byte more than such a file may have, and is not too
+-- long
 pub record IsDelaysAt (name : List ℕ) (before after : Option FilesSeen) (delays : List Span) : Type 0 where
   pub text : List ℕ
   pub front : IsFrontOf (most_delays + 1) before after name text
   pub fits : length text ≤ most_delays
   pub told : delays_in text ≡ Ok delays
 
--- why a text gives none: it is too long, or else this line of it is the first that gives no delay
+-- why a text gives none: it is too long, or otherwise this line of it is the first that gives no delay
 abbrev pub IsNoText : List ℕ → DelaysFault → Type 0
 IsNoText text fault.TooLong = most_delays < length text
 IsNoText text (fault.Line error) = (length text ≤ most_delays) × (delays_in text ≡ Err error)

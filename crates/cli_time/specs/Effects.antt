@@ -1,4 +1,4 @@
--- What a command that has files alone, the program's input in one of them, leaves of them and of its report.
+-- The effect of a command that has only files, one with the program's input, on the files and on its report.
 use Rattle.std.specs.Prelude.{◌≡◌, ℕ, List, Option, Result, Ok, Err, IfOk}
 use Rattle.cf_io.specs.Causes.{HasCause}
 use Rattle.cf_io.specs.Reads.{FilesSeen}
@@ -11,13 +11,13 @@ use Rattle.cli_files.specs.declared.status.Status.{Status}
 use Rattle.cli_reports.specs.Reporting.{Comes}
 use Rattle.cli_reports.specs.declared.reporting.Reported.{Reported}
 
--- an error where it was answered that a file, or the program's input in one, could not be read
+-- an error if the answer says that a file, or the program's input in one, could not be read
 abbrev pub reading_reported : Result Reported Failed → Result (Unit {0}) (Unit {0})
 reading_reported (Ok reported) = reading_answered reported.status
 reading_reported (Err failed) = Ok tt
 
--- the command was carried out, or the report failed while it was; the count of faults of the files rose exactly where the answer says
--- that one could not be read, and no answer says that the output failed
+-- the command was carried out, or the report failed meanwhile; the files' count of faults rose exactly if the answer
+-- says that a file could not be read, and no answer says that the output failed
 pub record CarriesOutOverFiles {F R : Type 0} (answers : Option FilesSeen → Option FilesSeen → Status → List ℕ → List ℕ → Type 0)
     (breaks : Option FilesSeen → Option FilesSeen → Option (List ℕ) → Option (List ℕ) → Type 0) (of_files : FilesMembers F)
     (of_report : SinkMembers R) (before after : F × R) (result : Result Reported Failed) : Type 0 where

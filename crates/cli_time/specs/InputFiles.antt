@@ -1,4 +1,4 @@
--- The input of a program that a file holds, read behind all other files, and why it holds none.
+-- The input of a program that a file holds, read after all other files, and why it holds none.
 use Rattle.std.specs.Prelude.{◌≡◌, ◌<◌, ◌≤◌, ◌+◌, ◌⊎◌, ℕ, List, [], length, codes, Option, Some, None}
 use Rattle.cf_io.specs.Reads.{FilesSeen}
 use Rattle.rv_machine.specs.Hart.{Hart}
@@ -12,21 +12,21 @@ use Rattle.cli_files.specs.declared.status.Which.TheVariants as which
 use Rattle.cli_time.specs.Asked.{TimeFiles}
 use Rattle.cli_time.specs.Reading.{LacksTimeFile, TimeFilesRead}
 
--- the greatest length of an input, in bytes
+-- the maximum length of an input, in bytes
 abbrev pub most_input : ℕ
 most_input = 16777216
 
--- the file's first bytes, one more than an input may have, are not too many, and are these
+-- these bytes came from a read of up to one byte more than an input may have, and are not too many
 pub record IsInputAt (name : List ℕ) (before after : Option FilesSeen) (bytes : List ℕ) : Type 0 where
   pub front : IsFrontOf (most_input + 1) before after name bytes
   pub fits : length bytes ≤ most_input
 
--- the input is that of the file that is named; where none is, it is empty, and no file was read
+-- the input is that of the named file; if no file is named, the input is empty, and no file was read
 abbrev pub IsInput : Option (List ℕ) → Option FilesSeen → Option FilesSeen → List ℕ → Type 0
 IsInput None before after bytes = (bytes ≡ []) × (after ≡ before)
 IsInput (Some name) before after bytes = IsInputAt name before after bytes
 
--- they are too many
+-- the bytes are too many
 pub record InputTooLong (name : List ℕ) (before after : Option FilesSeen) (answer : Status) (report : List ℕ) : Type 0 where
   pub bytes : List ℕ
   pub front : IsFrontOf (most_input + 1) before after name bytes
@@ -34,21 +34,21 @@ pub record InputTooLong (name : List ℕ) (before after : Option FilesSeen) (ans
   pub status_is : answer ≡ status.BadInput
   pub reports : report ≡ line (codes "bad input: TooLong")
 
--- why the file that is named gives no input, the status that says so, and the report
+-- why the named file gives no input, the status that says so, and the report
 abbrev pub LacksInput : Option (List ℕ) → Option FilesSeen → Option FilesSeen → Status → List ℕ → Type 0
 LacksInput None before after answer report = ⊥
 LacksInput (Some name) before after answer report =
     InputTooLong name before after answer report
     ⊎ LacksBytes which.Input (codes "read fault input") name before after answer report
 
--- all files are there, and behind them the program's input
+-- all files were found, and after them the program's input
 pub record TimeInputRead (files : TimeFiles) (named : Option (List ℕ)) (before after : Option FilesSeen) (delays : List Span)
     (plans : List Plan) (hart : Hart) (bytes : List ℕ) : Type 0 where
   pub between : Option FilesSeen
   pub read : TimeFilesRead files before between delays plans hart
   pub input_is : IsInput named between after bytes
 
--- all other files are there, and no input
+-- all other files were found, and no input
 pub record TimingStopsAtInput (files : TimeFiles) (named : Option (List ℕ)) (before after : Option FilesSeen) (answer : Status)
     (report : List ℕ) : Type 0 where
   pub delays : List Span
@@ -58,7 +58,7 @@ pub record TimingStopsAtInput (files : TimeFiles) (named : Option (List ℕ)) (b
   pub read : TimeFilesRead files before between delays plans hart
   pub lacks : LacksInput named between after answer report
 
--- the first of all these that is not there, the status that says why, and the report
+-- the first of all these that is missing, the status that says why, and the report
 abbrev pub LacksTimeInput : TimeFiles → Option (List ℕ) → Option FilesSeen → Option FilesSeen → Status → List ℕ → Type 0
 LacksTimeInput files named before after answer report =
     LacksTimeFile files before after answer report

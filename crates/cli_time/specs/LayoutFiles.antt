@@ -1,4 +1,4 @@
--- The layouts that some arguments name, read one after another, and the first that is not there.
+-- The layouts that some arguments name, read one after another, and the first that is missing.
 use Rattle.std.specs.Prelude.{◌≡◌, ◌⊎◌, ℕ, List, [], ◌∷◌, Option}
 use Rattle.cf_io.specs.Reads.{FilesSeen}
 use Rattle.cf_layout.specs.Layout.{Plan}
@@ -15,7 +15,8 @@ AreLayoutsAt (argument ∷ arguments) before after [] = ⊥
 AreLayoutsAt (argument ∷ arguments) before after (plan ∷ plans) =
     (between : Option FilesSeen) × IsLayoutAt argument before between plan × AreLayoutsAt arguments between after plans
 
--- the first arguments name layouts, and the next one names none, or memory to keep it was refused: the status that says why, and the report
+-- the first arguments name layouts, and the next one names none, or memory to keep it was refused: the status that says
+-- why, and the report
 abbrev pub LacksLayouts : List NamedLayout → Option FilesSeen → Option FilesSeen → Status → List ℕ → Type 0
 LacksLayouts [] before after answer report = ⊥
 LacksLayouts (argument ∷ arguments) before after answer report =

@@ -32,7 +32,7 @@ measured_text limit measured =
 abbrev pub time_line : ℕ → NamedLayout → Measured → List ℕ
 time_line limit argument measured = layout_name argument ++ measured_text limit measured
 
--- the same, and after it the lines of what the time is made of, where that is shown
+-- the same, followed by the lines of what the time is made of, if that is shown
 abbrev pub closing_lines : ℕ → NamedLayout → Measured → List ℕ
 closing_lines limit argument measured = time_line limit argument measured ++ sites_text measured.sites
 

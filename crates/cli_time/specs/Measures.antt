@@ -1,5 +1,5 @@
--- What is measured of a program on a layout: its timed run, by which it ends as on the sequential machine, how long that takes, what
--- that time is made of, and the lines of its moves.
+-- What is measured of a program on a layout: its timed run, which ends as on the sequential machine, how long that
+-- takes, what that time is made of, and the lines of its moves.
 use Rattle.std.specs.Prelude.{◌≡◌, ◌≤◌, ◌-◌, ℕ, List, [], ◌∷◌, Option, Some, None}
 use Rattle.rv_machine.specs.Machine.{Machine}
 use Rattle.rv_machine.specs.Streams.{Streams, streams_of}
@@ -39,13 +39,13 @@ moves_by rule plan core trace = delays_of plan rule (visits_of core.state trace)
 abbrev pub seen_by : DelayRule → Plan → Processor → List Made → List SeenMove
 seen_by rule plan core trace = seen_in plan rule core.state trace
 
--- what the time of some moves is made of, where that is shown
+-- what the time of some moves is made of, if that is shown
 abbrev pub made_of : TimeShow → Plan → List SeenMove → Option Breakdown
 made_of shows.Nothing plan moves = None
 made_of shows.Sites plan moves = Some (breakdown plan moves)
 made_of shows.Moves plan moves = None
 
--- the lines of the moves of a run, where they are shown
+-- the lines of the moves of a run, if they are shown
 abbrev pub lines_of : TimeShow → DelayRule → RunPlace → List Made → List ℕ
 lines_of shows.Nothing rule begin trace = []
 lines_of shows.Sites rule begin trace = []
@@ -56,9 +56,9 @@ pub record TakenRun : Type 0 where
   pub measured : Measured
   pub shown : List ℕ
 
--- an opened processor of this layout makes the moves that are done first, over an input of these bytes, and this was
--- measured: how it ended, the greatest time of a move, how many moves there were, how many instructions retired, and what
--- the time is made of and the lines of the moves, where that is shown; there were at most so many moves as a stated number
+-- an opened processor of this layout makes the moves that finish earliest, over an input of these bytes, and this was
+-- measured: how it ended, the maximum time of a move, how many moves there were, how many instructions retired, and
+-- what the time is made of and the lines of the moves, if that is shown; the number of moves is at most a stated number
 -- for these instructions
 pub record MeasuresRun (rule : DelayRule) (options : RunChoices) (plan : Plan) (core : Processor) (bytes : List ℕ) (taken : TakenRun) : Type 0 where
   pub last : Processor
@@ -71,7 +71,7 @@ pub record MeasuresRun (rule : DelayRule) (options : RunChoices) (plan : Plan) (
   pub sites_are : taken.measured.sites ≡ made_of options.show plan (seen_by rule plan core runs.right.runs.reaches.trace)
   pub shown_is : taken.shown ≡ lines_of options.show rule (begins core (over bytes)) runs.right.runs.reaches.trace
 
--- the same of the layout's processor, opened on the hart of the machine at its start, over the whole of its input
+-- the same for the layout's processor, opened on the hart of the machine at its start, over the whole of its input
 pub record Measures (delays : List Span) (options : RunChoices) (plan : Plan) (start : Machine) (taken : TakenRun) : Type 0 where
   pub takes : MeasuresRun (rule_by delays options) options plan (opened_processor plan start.hart) start.rest taken
   -- the time is the sum of the delays of a longest chain of the run
@@ -87,7 +87,7 @@ abbrev pub BreaksTaking : DelayRule → RunChoices → Processor → List ℕ �
 BreaksTaking rule options core bytes blank full =
     BreaksTimed (timed_lines_from (begins core (over bytes)) rule) options.rule rule options.limit (begins core (over bytes)) blank full
 
--- the same of the first layouts
+-- the same for the first layouts
 abbrev pub MeasuresFirst : List Span → RunChoices → Machine → List Plan → List TakenRun → Type 0
 MeasuresFirst delays options start plans [] = Unit {0}
 MeasuresFirst delays options start [] (taken ∷ more) = ⊥

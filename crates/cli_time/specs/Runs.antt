@@ -33,25 +33,25 @@ pub record PutsFewer (arguments : List NamedLayout) (options : RunChoices) (dela
   pub count : length measured ≡ place
   pub put : Writes blank full (time_lines options.limit arguments measured)
 
--- why there is not a line for each
+-- why not every layout has its line
 abbrev pub TimingStops : List NamedLayout → RunChoices → List Span → List Plan → Machine → Option (List ℕ) → Option (List ℕ) → Stop → Type 0
 TimingStops arguments options delays plans start blank full (stop.NoMemory place) = PutsFewer arguments options delays plans start blank full place
 TimingStops arguments options delays plans start blank full stop.Failed = BreaksAtLayout arguments options delays plans start blank full
 
--- an error where the report failed
+-- an error if the report failed
 abbrev pub stopped_by_report : {T : Type 0} → Result T Stop → Result (Unit {0}) (Unit {0})
 stopped_by_report (Ok times) = Ok tt
 stopped_by_report (Err (stop.NoMemory place)) = Ok tt
 stopped_by_report (Err stop.Failed) = Err tt
 
--- a run of an opened processor was measured, and the report got the lines of its moves where these are shown
+-- a run of an opened processor was measured, and the report got the lines of its moves if these are shown
 pub record PutsRun (rule : DelayRule) (options : RunChoices) (plan : Plan) (core : Processor) (bytes : List ℕ) (blank full : Option (List ℕ))
     (measured : Measured) : Type 0 where
   pub shown : List ℕ
   pub takes : MeasuresRun rule options plan core bytes (record { measured = measured; shown = shown })
   pub put : Writes blank full shown
 
--- the same of the processor of a layout
+-- the same for the processor of a layout
 pub record PutsMoves (delays : List Span) (options : RunChoices) (plan : Plan) (start : Machine) (blank full : Option (List ℕ)) (measured : Measured) : Type 0
   where
     pub shown : List ℕ

@@ -40,7 +40,7 @@ siding_numbers made = counted_from 0 (length made.layout.sidings)
 abbrev pub KindCount : Type 0
 KindCount = List ℕ × ℕ
 
--- there are some
+-- there are moves of the kind
 abbrev pub is_made : KindCount → Bool
 is_made (name, number) = nat_lt 0 number
 
@@ -48,7 +48,7 @@ is_made (name, number) = nat_lt 0 number
 abbrev pub count_text : KindCount → List ℕ
 count_text (name, number) = codes " " ++ name ++ codes "=" ++ decimal number
 
--- those kinds of which there are some
+-- the kinds of which there are moves
 unfoldable pub counts_text : List KindCount → List ℕ
 counts_text counts = flat_map count_text (filter is_made counts)
 
@@ -83,7 +83,7 @@ breakdown_text made =
     flat_map (stage_use_line made) (falling_stages made) ++ flat_map (siding_use_line made) (siding_numbers made)
     ++ kinds_line (codes "moves") made.moves ++ classes_text made ++ kinds_line (codes "chain") made.chain
 
--- nothing where it is not shown
+-- nothing if it is not shown
 unfoldable pub sites_text : Option Breakdown → List ℕ
 sites_text None = []
 sites_text (Some made) = breakdown_text made

@@ -1,4 +1,4 @@
--- What the command `time` answers, and its report.
+-- The answer of the command `time`, and its report.
 use Rattle.std.specs.Prelude.{◌≡◌, ◌<◌, ◌⊎◌, ℕ, List, ◌++◌, codes, length, map, slice_get, Option, Some}
 use Rattle.cf_timed.specs.declared.span.Span.{Span}
 use Rattle.cf_io.specs.Puts.{Writes, WritesFront}
@@ -46,13 +46,13 @@ pub record LacksRun (arguments : List NamedLayout) (options : RunChoices) (delay
   pub status_is : answer ≡ status.NoMemory
   pub reports : report ≡ time_lines options.limit arguments measured ++ line (codes "no memory")
 
--- what comes of delays, layouts and the machine as each run starts on it
+-- the outcome for delays, layouts and the machine as each run starts on it
 abbrev pub TimesOf : List NamedLayout → RunChoices → List Span → List Plan → Machine → Status → List ℕ → Type 0
 TimesOf arguments options delays plans start answer report =
     Compares arguments options delays plans start answer report
     ⊎ LacksRun arguments options delays plans start answer report
 
--- the report failed at the line of a layout: those of the earlier ones were put
+-- the report failed at the line of a layout: those of the earlier ones were written
 pub record BreaksAtLine (arguments : List NamedLayout) (options : RunChoices) (delays : List Span) (plans : List Plan) (start : Machine)
     (blank full : Option (List ℕ)) : Type 0 where
   pub measured : List TakenRun
@@ -100,7 +100,8 @@ BreaksTimes arguments options delays plans start blank full =
     BreaksAtLayout arguments options delays plans start blank full
     ⊎ BreaksAtLeast arguments options delays plans start blank full
 
--- all files are there, and this comes of them, and of the machine as it starts with the program and its whole input
+-- all files were found, and this is the outcome for them and for the machine as it starts with the program and its
+-- whole input
 pub record ReadsTimeFiles (Comes : List Span → List Plan → Machine → Type 0) (files : TimeFiles) (named : Option (List ℕ))
     (before after : Option FilesSeen) : Type 0 where
   pub delays : List Span
@@ -117,7 +118,7 @@ AnswersTime asked before after answer report =
     asked.files asked.input before after
     ⊎ LacksTimeInput asked.files asked.input before after answer report
 
--- all files are there, and the report failed
+-- all files were found, and the report failed
 abbrev pub BreaksTime : TimeAsked → Option FilesSeen → Option FilesSeen → Option (List ℕ) → Option (List ℕ) → Type 0
 BreaksTime asked before after blank full =
     ReadsTimeFiles (λ delays plans start. BreaksTimes asked.files.layouts asked.options delays plans start blank full)

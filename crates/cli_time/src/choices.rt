@@ -10,10 +10,10 @@ use run_options::{GuessRule, TimeShow};
 /// How each run of a comparison is made, and what is shown of it.
 #[derive(Clone, Copy)]
 pub struct RunChoices {
-    /// How many instructions each run retires at most.
+    /// The maximum number of instructions that each run retires.
     pub limit: u64,
 
-    /// Which guesses each run makes.
+    /// The guess rule of each run.
     pub rule: GuessRule,
 
     /// The seed from which delays are drawn.
@@ -23,7 +23,7 @@ pub struct RunChoices {
     pub show: TimeShow,
 }
 
-/// How the runs are made by what the arguments ask.
+/// How the runs are made, by what the arguments ask for.
 #[tactic(auto, unfolding(crate::specs::Asked::choices_by))]
 pub(crate) fn choices_by(options: TimeOptions<'_>) -> RunChoices
     ensures { result ≡ choices_by (times_view options.entry) }

@@ -63,7 +63,7 @@ fn latency_page(name: &[u8], retired: u64, ticks: u128) -> Page
     page
 }
 
-/// Puts that line, if an instruction of the class retired.
+/// Writes that line, if an instruction of the class retired.
 #[tactic(auto, unfolding(crate::specs::SiteLines::latency_text))]
 fn put_latency<R: Sink>(
     name: &[u8],
@@ -96,7 +96,7 @@ fn latency_at(numbers: &[u128], place: usize) -> u128
     numbers.get(place).copied().unwrap_or(0)
 }
 
-/// Puts the line of the class at an index in class order, if an instruction of it retired.
+/// Writes the line of the class at an index in class order, if an instruction of it retired.
 #[tactic(auto, using(crate::proofs::ClassNames::class_short))]
 fn put_class<R: Sink>(made: &Breakdown, place: usize, report: &mut R) -> Result<(), Failed>
     ensures { PutsInto R.Sink report.old report.new (class_line made.now place) result }
@@ -111,7 +111,7 @@ fn put_class<R: Sink>(made: &Breakdown, place: usize, report: &mut R) -> Result<
     )
 }
 
-/// Puts the lines of all classes.
+/// Writes the lines of all classes.
 pub(crate) fn put_classes<R: Sink>(made: &Breakdown, report: &mut R) -> Result<(), Failed>
     ensures { PutsInto R.Sink report.old report.new (classes_text made.now) result }
 {

@@ -29,8 +29,8 @@ use cli_files::{Answer, done, no_memory};
 use cli_reports::{Reported, put_decided};
 use std::alloc::Global;
 
-/// Runs the program on each layout, and puts the lines of each before the next run begins. The times are given, in the order of
-/// the layouts.
+/// Runs the program on each layout, and writes the lines of each before the next run begins. Returns the times, in the
+/// order of the layouts.
 fn time_each<R: Sink>(
     alloc: Global,
     ready: &ReadyTimes,
@@ -67,7 +67,7 @@ fn time_each<R: Sink>(
     Ok(times)
 }
 
-/// Runs the program on each layout, puts the lines of each, and names the first layout with the least time.
+/// Runs the program on each layout, writes the lines of each, and names the first layout with the least time.
 fn compare_ready<R: Sink>(
     alloc: Global,
     ready: &ReadyTimes,
@@ -140,13 +140,14 @@ fn compare_files<F: Files, R: Sink>(
     }
 }
 
-/// Carries out `time`: reads the delays, the one to eight layouts in their order, the program and, where the options name a file
-/// for it, the program's input, and runs the program on each layout, loaded anew and over the whole input, by the moves that are
-/// done first. The line of each is put to the report as it comes, with how the run
-/// ended, its time in ticks, and how many moves were made and instructions retired. Where the options say so, the lines of its
-/// moves stand before it, or what its time is made of after it. The last line names the first layout with the least time. An
-/// input that no file is named for is empty, and the program's output goes nowhere. Memory may be refused before the first move of each run, and then the
-/// lines of the earlier ones stand there. It fails where the report fails; nothing more is then put to it.
+/// Carries out `time`: reads the delays, the one to eight layouts in their order, the program and, if the options name
+/// a file for it, the program's input. It runs the program on each layout, loaded again and over the whole input, by
+/// the moves that finish earliest. The line of each layout is written to the report as it comes, with how the run
+/// ended, its time in ticks, and how many moves were made and instructions retired. If the options say so, the lines of
+/// its moves come before it, or what its time is made of after it. The last line names the first layout with the least
+/// time. If no file is named for the input, it is empty, and the program's output is discarded. Memory may be refused
+/// before the first move of each run, and then the report has the lines of the earlier ones. It fails if the report
+/// fails; then nothing more is written to it.
 pub fn compare_layouts<F: Files, R: Sink>(
     alloc: Global,
     delays: &str,

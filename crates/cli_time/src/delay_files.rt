@@ -14,7 +14,7 @@ use cli_files::{Answer, DelaysFault, Status, Which, no_memory, unread};
 use report_refusals::bad_delays;
 use std::alloc::Global;
 
-/// The greatest length of a file of delays, in bytes.
+/// The maximum length of a file of delays, in bytes.
 const MOST_BYTES: u64 = MOST_DELAYS as u64;
 
 fn refusal(fault: DelaysFault) -> Answer
@@ -27,7 +27,7 @@ fn refusal(fault: DelaysFault) -> Answer
     }
 }
 
-/// The delays that a text gives, or the answer where it gives none.
+/// The delays that a text gives, or the answer if it gives none.
 fn read_text(text: &[u8]) -> Result<Delays, Answer>
     ensures fits { IfOk result (λ delays. length text.now ≤ most_delays) }
     ensures told { IfOk result (λ delays. delays_in text.now ≡ Ok delays) }
@@ -42,7 +42,8 @@ fn read_text(text: &[u8]) -> Result<Delays, Answer>
     }
 }
 
-/// The delays that the file of this name gives, or the answer where it gives none. One byte more than it may have is read of it.
+/// The delays that the file of this name gives, or the answer if it gives none. It reads one byte more than the file
+/// may have.
 pub(crate) fn delays_at<F: Files>(
     alloc: Global,
     name: &str,

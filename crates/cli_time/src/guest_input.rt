@@ -4,7 +4,7 @@ ghost use Rattle.std.specs.Prelude.{Some};
 
 use cf_io::{Failed, Source};
 
-/// Bytes in memory that stay there. Each take gives as many as fit, and none fails.
+/// Bytes in memory that do not change. Each take gives as many as fit, and none fails.
 #[derive(Drop)]
 pub(crate) struct GuestInput<'a> {
     /// The bytes that have not been taken.

@@ -9,10 +9,11 @@ use cf_io::{Files, FilesErr};
 use cli_files::{Answer, Status, Which, line, no_memory, unread};
 use std::alloc::Global;
 
-/// The greatest length of an input, in bytes.
+/// The maximum length of an input, in bytes.
 const MOST_INPUT: u64 = 16_777_216;
 
-/// The bytes of the file of this name, or the answer where it gives no input. One byte more than an input may have is read of it.
+/// The bytes of the file of this name, or the answer if it gives no input. It reads one byte more than an input may
+/// have.
 fn bytes_at<F: Files>(alloc: Global, name: &str, files: &mut F) -> Result<Vec<u8>, Answer>
     ensures ok { IfOk result (λ bytes. IsInputAt name.now (F.told files.old) (F.told files.new) (vec_items bytes)) }
     ensures refused { IfErr result (λ answer. LacksInput (Some name.now)
@@ -30,7 +31,7 @@ fn bytes_at<F: Files>(alloc: Global, name: &str, files: &mut F) -> Result<Vec<u8
     }
 }
 
-/// The program's input: the bytes of the file that is named, or the answer where it gives none. Where no file is named the input is
+/// The program's input: the bytes of the named file, or the answer if it gives none. If no file is named the input is
 /// empty.
 pub(crate) fn input_at<F: Files>(
     alloc: Global,

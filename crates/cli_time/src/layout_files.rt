@@ -20,7 +20,7 @@ pub(crate) fn argument_at(arguments: &[String], place: usize) -> LayoutArgument<
     LayoutArgument::from_argument(arguments[place].as_str())
 }
 
-/// The layouts that arguments name, read in their order; or the answer of the first that is not there.
+/// The layouts that arguments name, read in order; or the answer of the first that is missing.
 pub(crate) fn layouts_at<F: Files>(
     alloc: Global,
     arguments: &[String],

@@ -1,9 +1,9 @@
-//! The least of some times.
+//! The minimum of some times.
 
 ghost use Rattle.std.specs.Prelude.{◌<◌, length};
 ghost use Rattle.cli_time.specs.Leasts.{IsFirstLeast};
 
-/// The place of the first of the least of some times.
+/// The place of the first minimum of some times.
 pub(crate) fn first_least(times: &[u64]) -> usize
     requires { 0 < length times.now }
     ensures { IsFirstLeast times.now result }

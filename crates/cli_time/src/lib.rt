@@ -1,5 +1,5 @@
-//! The command `time`: how long a program takes on each of some layouts, what that time is made of, and on which of them it takes
-//! the least.
+//! The command `time`: how long a program takes on each of some layouts, what that time is made of, and on which of
+//! them it is least.
 #![tactic(auto)]
 
 mod choices;

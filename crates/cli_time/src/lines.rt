@@ -52,7 +52,7 @@ fn push_number(page: &mut Page, name: &[u8], number: u64)
     page.push_decimal(number);
 }
 
-/// What was measured, as it stands after the name of the layout.
+/// What was measured, as written after the name of the layout.
 fn measured_page(limit: u64, measured: Measured) -> Page
     ensures { result ≡ measured_text limit measured }
 {
@@ -75,7 +75,7 @@ fn name_of(argument: LayoutArgument<'_>) -> &[u8]
     }
 }
 
-/// Puts one text, and another after it.
+/// Writes two texts, one after the other.
 fn put_both<R: Sink>(first: &[u8], second: &[u8], report: &mut R) -> Result<(), Failed>
     ensures { PutsInto R.Sink report.old report.new (first.now ++ second.now) result }
 {
@@ -83,7 +83,7 @@ fn put_both<R: Sink>(first: &[u8], second: &[u8], report: &mut R) -> Result<(), 
     put_all(report, second)
 }
 
-/// Puts the line of a layout, and after it those of what its time is made of, where that is shown.
+/// Writes the line of a layout, followed by those of what its time is made of, if that is shown.
 pub(crate) fn put_layout<R: Sink>(
     limit: u64,
     argument: LayoutArgument<'_>,
@@ -97,7 +97,7 @@ pub(crate) fn put_layout<R: Sink>(
     put_sites(&measured.sites, report)
 }
 
-/// Puts the line that names the layout with the least time.
+/// Writes the line that names the layout with the least time.
 pub(crate) fn put_least<R: Sink>(argument: LayoutArgument<'_>, report: &mut R) -> Result<(), Failed>
     ensures { PutsInto R.Sink report.old report.new (least_line (layout_of argument.entry)) result }
 {

@@ -31,13 +31,13 @@ use std::alloc::{AllocError, Global};
 pub struct Measured {
     /// How the run ended.
     pub answer: Timed,
-    /// When the last of its moves is done, in ticks.
+    /// When the last of its moves finishes, in ticks.
     pub time: u64,
     /// How many moves were made.
     pub moves: u64,
     /// How many instructions retired.
     pub retired: u64,
-    /// What the time is made of, where that is shown.
+    /// What the time is made of, if that is shown.
     pub sites: Option<Breakdown>,
 }
 
@@ -54,7 +54,7 @@ fn measurement(core: &Core, run: TimedRun, clock: &Clock, sites: Option<Breakdow
     }
 }
 
-/// The options of a timed run among these.
+/// The options of a timed run, from these.
 fn timed_options(options: RunChoices) -> TimedOptions
     ensures { result ≡ record { rule = options.rule; limit = options.limit } }
 {
@@ -64,7 +64,7 @@ fn timed_options(options: RunChoices) -> TimedOptions
     }
 }
 
-/// Runs an opened processor by a clock that was told of no move; nothing is shown.
+/// Runs an opened processor by a clock that has seen no move; nothing is shown.
 fn take_time(
     core: &mut Core,
     candidates: &mut Candidates,
@@ -89,7 +89,7 @@ fn take_time(
     measurement(core, run, &clock, None)
 }
 
-/// The same with a ledger that was told of no move either, which then says what the time is made of.
+/// The same with a ledger that has seen no move either, which then says what the time is made of.
 fn take_sites(
     core: &mut Core,
     candidates: &mut Candidates,
@@ -146,7 +146,7 @@ fn take_moves<R: Sink>(
     Ok(measurement(core, run, &clock, None))
 }
 
-/// Runs an opened processor by a clock that was told of no move, and shows of it what the options say.
+/// Runs an opened processor by a clock that has seen no move, and shows what the options say.
 fn take_run<R: Sink>(
     core: &mut Core,
     candidates: &mut Candidates,
@@ -176,7 +176,7 @@ struct LoadedCore {
     candidates: Candidates,
 }
 
-/// Loads the program anew on the processor of a layout. Memory may be refused.
+/// Loads the program again, on the processor of a layout. Memory may be refused.
 #[tactic(auto, using(cf_run::proofs::Opened::opened_cores))]
 fn load(alloc: Global, image: &[u8], layout: &Layout) -> Result<LoadedCore, AllocError>
     requires program { IsProgramFile image.now }
@@ -189,9 +189,10 @@ fn load(alloc: Global, image: &[u8], layout: &Layout) -> Result<LoadedCore, Allo
     Ok(LoadedCore { core, candidates })
 }
 
-/// Loads the program anew, and runs it on the processor of the layout with this index by the moves that are done first, over
-/// the whole of this input and with its output nowhere. A ledger is kept where it is shown what the time is made of; where the moves are shown,
-/// the report gets their lines. Memory may be refused, before the first move; nothing is put to the report then.
+/// Loads the program again, and runs it on the processor of the layout with this index by the moves that finish
+/// earliest, over the whole of this input; its output is discarded. A ledger is kept if the options show what the time
+/// is made of; if the moves are shown, the report gets their lines. Memory may be refused, before the first move; then
+/// nothing is written to the report.
 pub(crate) fn measure<R: Sink>(
     alloc: Global,
     ready: &ReadyTimes,

@@ -16,7 +16,7 @@ use cf_timed::Delays;
 use cli_files::{Answer, MOST_BYTES, Which, no_memory, open_image, unread};
 use std::alloc::Global;
 
-/// What the runs begin with: the delays, the layouts in their order, and the bytes of the program's file.
+/// What each run begins with: the delays, the layouts in their order, and the bytes of the program's file.
 #[derive(Drop)]
 pub(crate) struct ReadyTimes {
     pub(crate) delays: Delays,
@@ -24,7 +24,7 @@ pub(crate) struct ReadyTimes {
     pub(crate) image: Vec<u8>,
 }
 
-/// The bytes of the file of this name, which are a program, or the answer where they are no program.
+/// The bytes of the file of this name, if they are a program, or otherwise the answer.
 fn image_at<F: Files>(alloc: Global, name: &str, files: &mut F) -> Result<Vec<u8>, Answer>
     ensures reads { ReadsFiles (λ before after image. IsProgramAt name.now before after (hart_at_start (vec_items image))) (LacksProgram name.now)
         F.Files files.old files.new result }
@@ -47,7 +47,7 @@ struct DelaysAndLayouts {
     layouts: Vec<Layout>,
 }
 
-/// Reads the delays and the layouts, in this order; or gives the answer of the first that is not there.
+/// Reads the delays and the layouts, in this order; or returns the answer of the first that is missing.
 fn laid_at<F: Files>(
     alloc: Global,
     delays: &str,
@@ -68,7 +68,7 @@ fn laid_at<F: Files>(
     }
 }
 
-/// Reads the delays, the layouts and the program, in this order; or gives the answer of the first that is not there.
+/// Reads the delays, the layouts and the program, in this order; or returns the answer of the first that is missing.
 pub(crate) fn read_files<F: Files>(
     alloc: Global,
     delays: &str,

@@ -34,7 +34,7 @@ fn ticks_at(numbers: &[u64], number: u32) -> u64
     numbers.get(number as usize).copied().unwrap_or(0)
 }
 
-/// Puts the line of a place.
+/// Writes the line of a place.
 fn put_busy<R: Sink>(name: &[u8], number: u32, ticks: u64, report: &mut R) -> Result<(), Failed>
     requires { length name.now ≤ 10 }
     ensures { PutsInto R.Sink report.old report.new (busy_line name.now number ticks) result }
@@ -59,7 +59,7 @@ fn use_page(number: u32, busy: u64, waiting: u64, empty: u64) -> Page
     page
 }
 
-/// Puts the line of a stage.
+/// Writes the line of a stage.
 fn put_stage<R: Sink>(made: &Breakdown, stage: u32, report: &mut R) -> Result<(), Failed>
     ensures { PutsInto R.Sink report.old report.new (stage_use_line made.now stage) result }
 {
@@ -72,14 +72,14 @@ fn put_stage<R: Sink>(made: &Breakdown, stage: u32, report: &mut R) -> Result<()
     put_all(report, page.bytes())
 }
 
-/// Puts the line of a siding.
+/// Writes the line of a siding.
 fn put_siding<R: Sink>(made: &Breakdown, siding: u32, report: &mut R) -> Result<(), Failed>
     ensures { PutsInto R.Sink report.old report.new (siding_use_line made.now siding) result }
 {
     put_busy(b"siding ", siding, ticks_at(&made.sidings, siding), report)
 }
 
-/// Puts the lines of the stages, the highest first.
+/// Writes the lines of the stages, the highest first.
 fn put_stages<R: Sink>(made: &Breakdown, report: &mut R) -> Result<(), Failed>
     ensures { PutsInto R.Sink report.old report.new (flat_map (stage_use_line made.now) (falling_stages made.now)) result }
 {
@@ -90,7 +90,7 @@ fn put_stages<R: Sink>(made: &Breakdown, report: &mut R) -> Result<(), Failed>
     Ok(())
 }
 
-/// Puts the lines of the sidings.
+/// Writes the lines of the sidings.
 fn put_sidings<R: Sink>(made: &Breakdown, report: &mut R) -> Result<(), Failed>
     ensures { PutsInto R.Sink report.old report.new (flat_map (siding_use_line made.now) (siding_numbers made.now)) result }
 {
@@ -100,7 +100,7 @@ fn put_sidings<R: Sink>(made: &Breakdown, report: &mut R) -> Result<(), Failed>
     Ok(())
 }
 
-/// A kind of move and how many there are, after a space; nothing where there are none.
+/// A kind of move and how many there are, after a space; nothing if there are none.
 #[tactic(auto, unfolding(crate::specs::SiteLines::counts_text))]
 fn push_count(page: &mut Page, place: usize, number: u64)
     requires place { place < 14 }
@@ -139,7 +139,7 @@ fn kinds_page(name: &[u8], numbers: &[u64; 14]) -> Page
     page
 }
 
-/// Puts the line of that.
+/// Writes that line.
 fn put_kinds<R: Sink>(name: &[u8], numbers: &[u64; 14], report: &mut R) -> Result<(), Failed>
     requires { length name.now ≤ 10 }
     ensures { PutsInto R.Sink report.old report.new (kinds_line name.now numbers.now) result }
@@ -148,7 +148,7 @@ fn put_kinds<R: Sink>(name: &[u8], numbers: &[u64; 14], report: &mut R) -> Resul
     put_all(report, page.bytes())
 }
 
-/// Puts the lines of what a time is made of.
+/// Writes the lines of what a time is made of.
 fn put_breakdown<R: Sink>(made: &Breakdown, report: &mut R) -> Result<(), Failed>
     ensures { PutsInto R.Sink report.old report.new (breakdown_text made.now) result }
 {
@@ -159,9 +159,9 @@ fn put_breakdown<R: Sink>(made: &Breakdown, report: &mut R) -> Result<(), Failed
     put_kinds(b"chain", &made.chain, report)
 }
 
-/// Puts the lines of what a time is made of, where that is shown: how long each stage was in use, waited and was empty, the
-/// highest first, and each siding was in use; how many moves of each kind were made; how long the instructions of each class
-/// took; and how many moves of each kind are on a longest chain.
+/// Writes the lines of what a time is made of, if that is shown: how long each stage, the highest first, was in use,
+/// waited and was empty, and how long each siding was in use; how many moves of each kind were made; how long the
+/// instructions of each class took; and how many moves of each kind are on a longest chain.
 #[tactic(auto, unfolding(crate::specs::SiteLines::sites_text))]
 pub(crate) fn put_sites<R: Sink>(sites: &Option<Breakdown>, report: &mut R) -> Result<(), Failed>
     ensures { PutsInto R.Sink report.old report.new (sites_text sites.now) result }

@@ -1,9 +1,9 @@
 //! Why a comparison stops.
 
-/// Why there is no line for each layout.
+/// Why not every layout has a line.
 pub enum Stop {
     /// Memory was refused, before the first move of the run on the layout with this index. All lines of those before it
-    /// are put.
+    /// were written.
     NoMemory(usize),
     /// The report failed.
     Failed,

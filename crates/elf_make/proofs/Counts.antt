@@ -33,7 +33,7 @@ length-bound g (x ∷ xs) =
     let rest = length-bound g xs in
     omega (arith, step, either (is_bound g x) (length (bound g xs)) (length xs) rest)
 
--- each name has one byte more with its NUL
+-- each name is one byte longer with its NUL
 pub length-closed : (xs : List LabelView) → length (terminated_names xs) ≡ length (joined_names xs) + length xs
 length-closed [] = refl
 length-closed (x ∷ xs) =
@@ -71,7 +71,7 @@ bound-all : (xs : List LabelView) → length (bound Local xs) + length (bound Gl
 bound-all [] = refl
 bound-all (x ∷ xs) = omega (arith, bound-all xs, bound-by x.global x (bound Local xs) (bound Global xs))
 
--- the order keeps all labels
+-- reordering keeps all labels
 pub length-order : (xs : List LabelView) → length (locals_first xs) ≡ length xs
 unfolding locals_first
 length-order xs = length-append (bound Local xs) (bound Global xs) ∙ bound-all xs

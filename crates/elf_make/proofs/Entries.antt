@@ -1,4 +1,4 @@
--- The entries and the names of labels, one label after the other.
+-- The entries and the names of labels, one label after another.
 use Rattle.std.proofs.Common.{◌≡◌, ℕ, ◌+◌, ◌^◌, ◌<◌, ◌≤◌, Bool, true, false, List, [], ◌∷◌, ◌++◌, length, refl, ap, ◌∙◌, sym, cond, arith, append_assoc, append-nil, length-append}
 use Rattle.std.specs.Prelude.{nat_lt}
 use Rattle.std.proofs.lemmas.Grind.{flat_map-append}
@@ -49,7 +49,7 @@ entries-append at (x ∷ xs) ys =
 pub names-append : (xs ys : List LabelView) → terminated_names (xs ++ ys) ≡ terminated_names xs ++ terminated_names ys
 names-append xs ys = flat_map-append (λ (label : LabelView). terminated label.name) xs ys
 
--- the labels of two lists were put after the first symbol
+-- the labels of two lists were appended after the first symbol
 pub symbols-put : (old none first second new : List ℕ) (start : ℕ) (xs ys : List LabelView)
     → new ≡ second ++ entries_from start ys → second ≡ first ++ entries_from 1 xs → first ≡ old ++ none
     → start ≡ 1 + length (terminated_names xs) → new ≡ old ++ (none ++ entries_from 1 (xs ++ ys))

@@ -1,4 +1,4 @@
--- The headers that are read at the start of a file that was written.
+-- The headers that are read from the start of a file that was written.
 use Rattle.std.proofs.Common.{◌≡◌, ℕ, ◌^◌, ◌<◌, List, [], ◌∷◌, ◌++◌, ap, ◌∙◌}
 use Rattle.elf_view.specs.declared.headers.FileHeader.{FileHeader}
 use Rattle.elf_view.specs.declared.headers.ProgramHeader.{ProgramHeader}

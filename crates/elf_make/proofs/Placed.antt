@@ -1,4 +1,4 @@
--- The parts of a file that was written, each where it begins.
+-- The parts of a file that was written, each at its beginning.
 use Rattle.std.proofs.Common.{◌≡◌, ℕ, ◌+◌, ◌*◌, ◌^◌, ◌<◌, ◌≤◌, List, [], ◌∷◌, ◌++◌, length, drop, replicate, refl, ap, ◌∙◌, arith, append_assoc, length-append, length-drop}
 use Rattle.std.proofs.lemmas.List.{length-replicate}
 use Rattle.rv_asm.specs.declared.object.Object.{Object}
@@ -40,7 +40,7 @@ from_text_padding o = zeros_after (length o.text_bytes) ++ from_data o
 abbrev pub from_text : Object → List ℕ
 from_text o = o.text_bytes ++ from_text_padding o
 
--- eleven lists, however they are put together
+-- eleven lists, however they are grouped
 regrouped : (f t z d y s n m p h : List ℕ)
     → ((f ++ (((t ++ z) ++ d) ++ y)) ++ (((s ++ n) ++ m) ++ p)) ++ h ≡ f ++ (t ++ (z ++ (d ++ (y ++ (s ++ (n ++ (m ++ (p ++ h))))))))
 regrouped f t z d y s n m p h = simp append_assoc
@@ -137,7 +137,7 @@ small-sizes o h = record {
   names = omega (arith, length-symbol_names o.labels, length-closed o.labels, h.labels, h.name_bytes);
 }
 
--- so all offsets are numbers of 32 bits, one after the other
+-- so all offsets are numbers of 32 bits, in ascending order
 pub record AreOrdered (s : Sizes) : Type 0 where
   pub text_first : text_offset ≤ data_offset s
   pub text_fits : text_offset + s.text_len ≤ data_offset s

@@ -1,4 +1,4 @@
--- The headers of the sections that are read at the end of a file that was written.
+-- The headers of the sections that are read from the end of a file that was written.
 use Rattle.std.proofs.Common.{◌≡◌, ℕ, ◌+◌, ◌*◌, ◌^◌, ◌<◌, false, List, [], ◌∷◌, drop, refl, ap, ◌∙◌, arith, Some}
 use Rattle.std.specs.Prelude.{◌==◌, position}
 use Rattle.std.proofs.lemmas.Bool.Decides.{nat_tests}

@@ -1,4 +1,4 @@
--- The symbols that are read in a table that was written, with their names.
+-- The symbols that are read from a table that was written, with their names.
 use Rattle.std.proofs.Common.{◌≡◌, ◌≢◌, ℕ, ◌+◌, ◌^◌, ◌<◌, ◌≤◌, Bool, true, false, List, [], ◌∷◌, ◌++◌, length, drop, replicate, get_or, refl, sym, ap, ◌∙◌, subst, cond, arith, append_assoc, length-append, All}
 use Rattle.std.specs.Prelude.{◌==◌, map}
 use Rattle.std.specs.List.{before_first, position_or_len}
@@ -111,7 +111,7 @@ symbols-are (l ∷ ls) names at e h =
 abbrev pub IsNameBelow : ℕ → SymbolEntry → Type 0
 IsNameBelow size e = e.name < size
 
--- each name begins before the end of all
+-- each name begins before the end of all names
 pub names-begin : (labels : List LabelView) (name size : ℕ) → name + length (terminated_names labels) ≤ size
     → All (IsNameBelow size) (entries_read name labels)
 names-begin [] name size h = All-nil (IsNameBelow size)
@@ -134,7 +134,7 @@ names-end (l ∷ ls) =
     ∙ get_or-append-add (0 ∷ l.name) (0 ∷ terminated_names ls) (length (terminated_names ls)) 0
     ∙ names-end ls
 
--- what holds of the labels holds of them in another order
+-- what holds for the labels holds for them in another order
 either-no-nul : (b : Bool) (x : LabelView) (xs : List LabelView) → HasNoNul x.name → HasNoNul (joined_names xs) → HasNoNul (joined_names (cond b (x ∷ xs) xs))
 either-no-nul true x xs h k = All-append IsNoNul x.name (joined_names xs) h k
 either-no-nul false x xs h k = k

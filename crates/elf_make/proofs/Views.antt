@@ -32,7 +32,7 @@ use Rattle.elf_make.proofs.HeadersRead.{header_with, load_with, two_programs, he
 use Rattle.elf_make.proofs.SectionsRead.{symbols_header, names_header, some-sections, table-is, symbols-read, names-read}
 use Rattle.elf_make.proofs.SymbolsRead.{IsAddress, entries_read, entries-are, none-is, entry-in, symbols-are, IsNameBelow, names-begin, names-end, order-no-nul}
 
--- what is read of the headers of a file
+-- what is read from the headers of a file
 record IsRead (o : Object) (file : List ℕ) : Type 0 where
   order : AreOrdered (sizes_of o)
   long : length file ≡ sections_offset (sizes_of o) + 240

@@ -33,7 +33,7 @@ abbrev pub section_header_bytes : SectionFields → List ℕ
 section_header_bytes h =
     words (h.name ∷ h.kind ∷ h.flags ∷ h.address ∷ h.offset ∷ h.len ∷ h.link ∷ h.info ∷ h.alignment ∷ h.entry_len ∷ [])
 
--- the header with the index 0, which stands for no section
+-- the header with the index 0, which describes no section
 abbrev pub no_section : SectionFields
 no_section = record {
   name = 0;
@@ -48,7 +48,7 @@ no_section = record {
   entry_len = 0;
 }
 
--- the text and the data (SHT_PROGBITS), which are in memory: the text may be executed, the data may be written
+-- the text and the data (SHT_PROGBITS), which are in memory: the text is executable, the data is writable
 abbrev pub text_section : Sizes → SectionFields
 text_section s = record no_section {
   name = 1;
@@ -84,7 +84,7 @@ symbols_section s = record no_section {
   entry_len = 16;
 }
 
--- their names, and those of the sections (SHT_STRTAB)
+-- the names of the symbols, and those of the sections (SHT_STRTAB)
 abbrev pub names_section : Sizes → SectionFields
 names_section s = record no_section { name = 21; kind = 3; offset = names_offset s; len = s.names_len; alignment = 1 }
 
@@ -97,12 +97,12 @@ section_names_section s = record no_section {
   alignment = 1;
 }
 
--- the header for no section, then those of what is in memory
+-- the header for no section, then the headers of the sections that are in memory
 abbrev pub content_headers : Sizes → List ℕ
 content_headers s =
     section_header_bytes no_section ++ section_header_bytes (text_section s) ++ section_header_bytes (data_section s)
 
--- those of the symbols and of the names
+-- the headers of the symbols and of the names
 abbrev pub table_headers : Sizes → List ℕ
 table_headers s =
     section_header_bytes (symbols_section s) ++ section_header_bytes (names_section s)

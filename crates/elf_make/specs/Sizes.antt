@@ -43,7 +43,7 @@ unfoldable pub sections_offset : Sizes → ℕ
 sections_offset s = padded (section_names_end s)
 
 -- text and data have at most 1,048,576 bytes each, there are at most 524,288 labels, and their names have at most
--- 1,048,576 bytes besides a NUL for each and one before them
+-- 1,048,576 bytes, not counting a NUL after each and one before them
 pub record AreSmall (s : Sizes) : Type 0 where
   pub text : s.text_len ≤ 1048576
   pub data_section : s.data_len ≤ 1048576

@@ -7,11 +7,11 @@ use Rattle.elf_make.specs.declared.binding.SymbolBinding.{SymbolBinding}
 use Rattle.elf_make.specs.declared.binding.SymbolBinding.TheVariants.{Local, Global}
 use Rattle.elf_make.specs.Fields.{halves, words}
 
--- a name with the NUL that closes it
+-- a name with its terminating NUL
 abbrev pub terminated : List ℕ → List ℕ
 terminated name = name ++ 0 ∷ []
 
--- the label has this binding: it is global where it is exported
+-- the label has this binding: it is global if it is exported
 abbrev pub is_bound : SymbolBinding → LabelView → Bool
 is_bound Local label = not label.global
 is_bound Global label = label.global

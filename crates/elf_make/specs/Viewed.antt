@@ -11,7 +11,7 @@ use Rattle.elf_make.specs.Sizes.{text_offset, data_offset}
 use Rattle.elf_make.specs.Symbols.{locals_first}
 use Rattle.elf_make.specs.Files.{sizes_of}
 
--- the text at 0x10000, which may be executed and not written
+-- the text at 0x10000, which is executable and not writable
 abbrev pub text_segment : Object → LoadSegment
 text_segment o = record {
   vaddr = 0x10000;
@@ -22,7 +22,7 @@ text_segment o = record {
   exec = true;
 }
 
--- the data at 0x200000, which may be written and not executed
+-- the data at 0x200000, which is writable and not executable
 abbrev pub data_segment : Object → LoadSegment
 data_segment o = record {
   vaddr = 0x200000;

@@ -1,7 +1,7 @@
 //! The binding of a symbol.
 
-/// Whether a symbol is seen by other files (Tool Interface Standard, Executable and Linking Format Specification, "Symbol
-/// Binding").
+/// Whether a symbol is visible to other files (Tool Interface Standard, Executable and Linking Format Specification,
+/// "Symbol Binding").
 #[derive(Clone, Copy)]
 pub(crate) enum SymbolBinding {
     /// A label that is not exported: `STB_LOCAL`.

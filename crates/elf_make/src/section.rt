@@ -16,17 +16,17 @@ pub(crate) struct SectionFields {
     pub offset: u32,
     /// How many bytes it has.
     pub len: u32,
-    /// Of symbols, the index of the section with their names.
+    /// For symbols, the index of the section with their names.
     pub link: u32,
-    /// Of symbols, the index of the first that is not local.
+    /// For symbols, the index of the first that is not local.
     pub info: u32,
     /// Its address is a multiple of this.
     pub alignment: u32,
-    /// How many bytes an entry has, where all have the same size.
+    /// How many bytes an entry has, if all have the same size.
     pub entry_len: u32,
 }
 
-/// The header with the index 0, which stands for no section.
+/// The header with the index 0, which describes no section.
 pub(crate) const NO_SECTION: SectionFields = SectionFields {
     name: 0,
     kind: 0,

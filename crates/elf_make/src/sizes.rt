@@ -18,8 +18,8 @@ pub const TEXT_OFFSET: u32 = 116;
 /// The length of the names of the sections.
 pub const SECTION_NAMES_LEN: u32 = 39;
 
-/// How many bytes the text, the data and the names of the symbols have, and how many labels there are,
-/// and how many of them are local.
+/// How many bytes the text, the data and the names of the symbols have, how many labels there are, and how many of them
+/// are local.
 #[derive(Clone, Copy)]
 pub struct Sizes {
     pub text_len: u32,

@@ -1,4 +1,4 @@
--- What is true of files that pass all tests.
+-- What holds for files that pass all tests.
 use Rattle.std.proofs.Common.{◌≡◌, ℕ, ◌+◌, List, [], ◌∷◌, All, length, get_or, Bool, true, false, Option, Some, None, refl, sym, arith, subst}
 use Rattle.std.specs.Prelude.{nat_lt, ◌&&◌, not}
 use Rattle.std.specs.Option.{option_or, option_map}
@@ -22,7 +22,7 @@ abbrev pub Pass : List (Option ElfErr) → Type 0
 Pass [] = Unit {0}
 Pass (test ∷ tests) = (test ≡ None) × Pass tests
 
--- where two tests together give no error, the first gives none
+-- if two tests together give no error, the first gives none
 first_passes : (a b : Option ElfErr) → option_or a b ≡ None → a ≡ None
 first_passes None b e = refl
 first_passes (Some x) b e = cc
@@ -32,12 +32,12 @@ others_pass : (a b : Option ElfErr) → option_or a b ≡ None → b ≡ None
 others_pass None b e = e
 others_pass (Some x) b e = cc
 
--- where no test gives an error, each passes
+-- if no test gives an error, each passes
 pub all_pass : (tests : List (Option ElfErr)) → first_error tests ≡ None → Pass tests
 all_pass [] e = tt
 all_pass (test ∷ tests) e = (first_passes test (first_error tests) e, all_pass tests (others_pass test (first_error tests) e))
 
--- where no number is given as an error, there is no number
+-- if no number is given as an error, there is no number
 pub no_number : (f : ℕ → ElfErr) (o : Option ℕ) → option_map f o ≡ None → o ≡ None
 no_number f None e = refl
 no_number f (Some n) e = cc
@@ -47,17 +47,17 @@ pub groups_pass : (file : List ℕ) → file_refusal file ≡ None → Pass (gro
 unfolding file_refusal
 groups_pass file e = all_pass (groups file) e
 
--- each of them passes
+-- each test of the tables passes
 pub tables_pass : (file : List ℕ) → file_refusal file ≡ None → Pass (table_tests file)
 unfolding table_refusal
 tables_pass file e = all_pass (table_tests file) (groups_pass file e).1.1.0
 
--- each of them passes
+-- each test of the segments passes
 pub segments_pass : (file : List ℕ) → file_refusal file ≡ None → Pass (segment_tests file)
 unfolding segment_refusal
 segments_pass file e = all_pass (segment_tests file) (groups_pass file e).1.1.1.0
 
--- the program headers lie in the file
+-- the program headers are in the file
 pub programs_fit : (file : List ℕ) → file_refusal file ≡ None → FitsIn file (file_header file).program_offset 32 (file_header file).program_count
 unfolding cut_program_header
 programs_fit file e = none_cut file _ 32 _ (no_number TooShort _ (tables_pass file e).1.1.0)
@@ -67,7 +67,7 @@ pub sections_fit : (file : List ℕ) → file_refusal file ≡ None → FitsIn f
 unfolding cut_section_header
 sections_fit file e = none_cut file _ 40 _ (no_number TooShort _ (tables_pass file e).1.1.1.0)
 
--- of two tests that do not both hold, the second fails where the first holds
+-- of two tests that do not both hold, the second fails if the first holds
 neither : (a b : Bool) → (a && b) ≡ false → a ≡ true → b ≡ false
 neither true b e h = e
 neither false b e h = cc

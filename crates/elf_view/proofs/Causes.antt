@@ -1,4 +1,4 @@
--- Each refusal is given for its true cause.
+-- Each refusal names its true cause.
 use Rattle.std.proofs.Common.{◌≡◌, ◌≢◌, ℕ, zero, suc, ◌+◌, ◌*◌, ◌<◌, ◌≤◌, List, [], ◌∷◌, length, get_or, take, Bool, true, false, cond, Option, Some, None, refl, sym, subst, arith, inl, inr}
 use Rattle.std.specs.Prelude.{position, find, nat_lt, not, ◌&&◌, ◌==◌, bit_and, slice_index}
 use Rattle.std.specs.Option.{option_or, option_map}
@@ -20,7 +20,7 @@ use Rattle.elf_view.proofs.Groups.{identity_tests, target_tests, segment_tests, 
 use Rattle.elf_view.proofs.Readable.{both_hold, both_true, never, readable-sound}
 use Rattle.elf_view.proofs.Tables.{none_cut}
 
--- what a refusal, if there is one, says of the file
+-- what a refusal, if there is one, says about the file
 Says : List ℕ → Option ElfErr → Type 0
 Says file None = Unit {0}
 Says file (Some e) = IsElfCause file e
@@ -30,25 +30,25 @@ AllSay : List ℕ → List (Option ElfErr) → Type 0
 AllSay file [] = Unit {0}
 AllSay file (test ∷ tests) = Says file test × AllSay file tests
 
--- where two tests say the truth, so does the first of them that fails
+-- if two tests say the truth, so does the first of them that fails
 says-option_or : (file : List ℕ) (a b : Option ElfErr) → Says file a → Says file b → Says file (option_or a b)
 unfolding Says
 says-option_or file None b s t = t
 says-option_or file (Some e) b s t = s
 
--- and so does the first of many
+-- and so does the first of several
 says-first_of : (file : List ℕ) (tests : List (Option ElfErr)) → AllSay file tests → Says file (first_error tests)
 unfolding Says AllSay
 says-first_of file [] all = tt
 says-first_of file (test ∷ tests) all = says-option_or file test (first_error tests) all.0 (says-first_of file tests all.1)
 
--- a test says the truth where the fault that it finds is the cause
+-- a test says the truth if the fault that it finds is the cause
 says-where_so : (file : List ℕ) (fault : Bool) (e : ElfErr) → (fault ≡ true → IsElfCause file e) → Says file (where_so fault e)
 unfolding Says
 says-where_so file true e cause = cause refl
 says-where_so file false e cause = tt
 
--- a number that is given says the truth where it names the cause
+-- a number that is given says the truth if it names the cause
 says-option_map : (file : List ℕ) (f : ℕ → ElfErr) (o : Option ℕ) → ((n : ℕ) → o ≡ Some n → IsElfCause file (f n)) → Says file (option_map f o)
 unfolding Says
 says-option_map file f None cause = tt
@@ -70,7 +70,7 @@ other_bytes file e ones =
     let first = ones.0 in let second = ones.1 in let third = ones.2 in
     fails (slice_index file 4 == 1 && slice_index file 5 == 1 && slice_index file 6 == 1) e (rw (first, second, third) refl)
 
--- the tests of what the file is
+-- the tests of the file's identity
 says-identity : (file : List ℕ) → Says file (identity_refusal file)
 unfolding identity_refusal no_file_header not_elf not_32_little AllSay
 says-identity file = says-first_of file (identity_tests file) (
@@ -82,7 +82,7 @@ says-identity file = says-first_of file (identity_tests file) (
   ),
 )
 
--- the tests of what it is made for
+-- the tests of the file's target
 says-target : (file : List ℕ) → Says file (target_refusal (file_header file))
 unfolding target_refusal not_executable not_riscv needs_compressed needs_float needs_rve AllSay
 says-target file =
@@ -108,7 +108,7 @@ wrong_size count size right e =
     let some : count ≢ 0 = apart count 0 both.0 in
     (omega arith, apart size right both.1)
 
--- entries before an index lie in the file where the first does and the others do
+-- entries before an index are in the file if the first and the others are
 earlier : (file : List ℕ) (at size k : ℕ) (index : ℕ) → at + size ≤ length file → k < index →
     ((j : ℕ) → j + 1 < index → ((at + size) + size * j) + size ≤ length file) → (at + size * k) + size ≤ length file
 earlier file at size zero index fits below others = omega arith
@@ -142,7 +142,7 @@ cut-first file at size (suc count) place e =
     cut_at file at size count place (nat_lt (length file) (at + size)) (find (λ p. ends_beyond file p size) (entry_offsets (at + size) size count)) refl e
     (λ fits told. cut-first file (at + size) size count place told)
 
--- the sections are tested where the program headers lie in the file
+-- the sections are tested if the program headers are in the file
 says-sections : (file : List ℕ) (programs : Option ℕ) → find (λ p. ends_beyond file p 32) (entry_offsets (file_header file).program_offset 32
     (file_header file).program_count) ≡ programs →
     Says file (option_or (option_map (λ n. TooShort n) programs) (option_or (cut_section_header file) None))
@@ -183,26 +183,26 @@ outside-yes : (file : List ℕ) (h : ProgramHeader) → ends_outside file h ≡ 
 outside-yes file h e = let both = both_hold (is_loaded h) (ends_beyond file h.offset h.filesz) e in
     let beyond : nat_lt (length file) (h.offset + h.filesz) ≡ true = both.1 in (both.0, grind (arith, nat_tests))
 
--- and one that is not
+-- and a segment that is not outside it
 outside-no : (file : List ℕ) (h : ProgramHeader) → ends_outside file h ≡ false → ¬ EndsBeyond file h
 outside-no file h e so = let load = so.0 in let beyond = so.1 in let test : ends_beyond file h.offset h.filesz ≡ true = grind (arith, nat_tests) in
     never (ends_outside file h) (both_true (is_loaded h) (ends_beyond file h.offset h.filesz) load test) e
 
--- a segment that is larger in the file
+-- a segment that is larger in the file than in memory
 larger-yes : (h : ProgramHeader) → is_larger h ≡ true → IsLarger h
 larger-yes h e = let both = both_hold (is_loaded h) (nat_lt h.memsz h.filesz) e in let beyond : nat_lt h.memsz h.filesz ≡ true = both.1 in
     (both.0, grind (arith, nat_tests))
 
--- and one that is not
+-- and a segment that is not
 larger-no : (h : ProgramHeader) → is_larger h ≡ false → ¬ IsLarger h
 larger-no h e so = let load = so.0 in let beyond = so.1 in let test : nat_lt h.memsz h.filesz ≡ true = grind (arith, nat_tests) in
     never (is_larger h) (both_true (is_loaded h) (nat_lt h.memsz h.filesz) load test) e
 
--- a kind, by the test
+-- a kind, according to the test
 same_kind : (h : ProgramHeader) → is_interpreter h ≡ true → h.kind ≡ 3
 same_kind h e = grind (arith, nat_tests)
 
--- some header is that of an interpreter's name
+-- some header names an interpreter
 interpreter-any : (hs : List ProgramHeader) → list_any is_interpreter hs ≡ true → Any (λ h. h.kind ≡ 3) hs
 interpreter-any hs e = let a = Any-from_list_any is_interpreter hs e in (a.0, a.1, a.2, a.3, same_kind a.1 a.4)
 
@@ -240,12 +240,12 @@ says-refusal : (file : List ℕ) → Says file (file_refusal file)
 unfolding file_refusal AllSay
 says-refusal file = says-first_of file (groups file) (says-identity file, (says-target file, (says-tables file, (says-segments file, (says-symbols file, tt)))))
 
--- what is true of a refusal that is given
+-- what holds for a refusal that is given
 told-cause : (file : List ℕ) (o : Option ElfErr) (e : ElfErr) → o ≡ Some e → Says file o → IsElfCause file e
 unfolding Says
 told-cause file None e h s = cc
 told-cause file (Some x) e h s = let same : x ≡ e = cc in subst (λ (y : ElfErr). IsElfCause file y) same s
 
--- a refusal is given for its true cause
+-- a refusal names its true cause
 pub refusal-cause : (file : List ℕ) (e : ElfErr) → file_refusal file ≡ Some e → IsElfCause file e
 refusal-cause file e h = told-cause file (file_refusal file) e h (says-refusal file)

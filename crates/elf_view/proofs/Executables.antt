@@ -1,4 +1,4 @@
--- A file passes all tests exactly where it is an executable that can be viewed.
+-- A file passes all tests if and only if it is an executable that can be viewed.
 use Rattle.std.proofs.Common.{◌≡◌, ◌≢◌, ℕ, zero, suc, ◌+◌, ◌*◌, ◌<◌, ◌≤◌, List, [], ◌∷◌, length, get_or, take, All, Bool, true, false, cond, Option, Some, None, refl, sym, arith}
 use Rattle.std.specs.Prelude.{position, find, filter, nat_lt, not, ◌&&◌, ◌==◌, bit_and, slice_index}
 use Rattle.std.specs.List.{list_any}
@@ -21,7 +21,7 @@ use Rattle.elf_view.proofs.Accepted.{Pass, all_pass, groups_pass, tables_pass, s
 use Rattle.elf_view.proofs.Groups.{identity_tests, target_tests, table_tests, segment_tests, groups, no_header}
 use Rattle.elf_view.proofs.Readable.{both_hold, readable-sound, length-bytes_at, never}
 
--- ---- what passes all tests is an executable that can be viewed
+-- ---- a file that passes all tests is an executable that can be viewed
 
 -- a test that gives no error finds no fault
 no_fault : (fault : Bool) (e : ElfErr) → where_so fault e ≡ None → fault ≡ false
@@ -97,11 +97,11 @@ passed-tables file e =
       sections = sections_fit file e;
     }
 
--- a header of which the test is false is not that of an interpreter's name
+-- a header for which the test is false does not name an interpreter
 other_kind : (h : ProgramHeader) → is_interpreter h ≡ false → h.kind ≢ 3
 other_kind h e = λ k. grind (arith, nat_tests)
 
--- a test that cannot be true of an element is false of it
+-- a test that cannot be true for an element is false for it
 holds_of_none : {X : Type 0} (p : X → Bool) (x : X) (b : Bool) → p x ≡ b → (p x ≡ true → ⊥) → p x ≡ false
 holds_of_none p x true e never = absurd (never e)
 holds_of_none p x false e never = e
@@ -141,9 +141,9 @@ segments-loadable file e =
     All-map (IsLoadable file) (segment_of file) (filter is_loaded (program_headers file))
     (λ k d within. loadable-segment file (get_or (filter is_loaded (program_headers file)) k d) (sound k d within))
 
--- ---- what can be viewed passes all tests
+-- ---- a file that can be viewed passes all tests
 
--- tests that each give no error give none together
+-- if none of the tests gives an error, they give none together
 none_tells : (tests : List (Option ElfErr)) → Pass tests → first_error tests ≡ None
 none_tells [] pass = refl
 none_tells (test ∷ tests) pass = rw pass.0 (none_tells tests pass.1)
@@ -157,7 +157,7 @@ tells_none false e h = refl
 same_none : (a b : ℕ) (e : ElfErr) → a ≡ b → where_so (not (a == b)) e ≡ None
 same_none a b e h = let test : (a == b) ≡ true = grind (arith, nat_tests) in rw test refl
 
--- the tests of what the file is
+-- the tests of the file's identity
 identity-passes : (file : List ℕ) → HasIdentity file → identity_refusal file ≡ None
 unfolding identity_refusal no_file_header not_elf not_32_little
 identity-passes file i =
@@ -170,7 +170,7 @@ identity-passes file i =
       (rw magic refl, (rw (class, order, version) refl, tt)),
     )
 
--- the tests of what it is made for
+-- the tests of the file's target
 target-passes : (h : FileHeader) → HasTarget h → target_refusal h ≡ None
 unfolding target_refusal not_executable not_riscv needs_compressed needs_float needs_rve
 target-passes h t =
@@ -219,7 +219,7 @@ tables-pass file t =
       ),
     )
 
--- what holds of all that pass a test holds of the later ones, and of the first element where it passes
+-- what holds for all elements that pass a test holds for the later ones, and for the first element if it passes
 all-filtered : {X : Type 0} (p : X → Bool) (P : X → Type 0) (x : X) (xs : List X) (b : Bool) → p x ≡ b → All P (cond b (x ∷ filter p xs) (filter p xs)) →
     All P (filter p xs) × (p x ≡ true → P x)
 all-filtered p P x xs true e all = (λ k d within. all (suc k) d (omega arith), λ _. all 0 x (omega arith))
@@ -244,7 +244,7 @@ sound-inside file h s = loaded-fails (is_loaded h) (ends_beyond file h.offset h.
 sound-small : (file : List ℕ) (h : ProgramHeader) → (is_loaded h ≡ true → IsSoundSegment file h) → is_larger h ≡ false
 sound-small file h s = loaded-fails (is_loaded h) (nat_lt h.memsz h.filesz) (λ load. let room = (s load).room in grind (arith, nat_tests))
 
--- there is no index of an element that passes where none does
+-- there is no index of an element that passes if none does
 no_index : (test : ProgramHeader → Bool) (hs : List ProgramHeader) (o : Option ℕ) → position test hs ≡ o → All (λ h. test h ≡ false) hs → o ≡ None
 no_index test hs None e all = refl
 no_index test hs (Some i) e all =

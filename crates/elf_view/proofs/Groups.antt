@@ -6,11 +6,11 @@ use Rattle.elf_view.specs.declared.refusal.ElfErr.{ElfErr}
 use Rattle.elf_view.specs.Headers.{file_header}
 use Rattle.elf_view.specs.Refusal.{no_file_header, not_elf, not_32_little, identity_refusal, not_executable, not_riscv, needs_compressed, needs_float, needs_rve, target_refusal, bad_program_size, bad_section_size, cut_program_header, cut_section_header, table_refusal, needs_interpreter, outside_file, larger_than_memory, segment_refusal, bad_symbols}
 
--- what the file is
+-- the file's identity
 abbrev pub identity_tests : List ℕ → List (Option ElfErr)
 identity_tests file = no_file_header file ∷ not_elf file ∷ not_32_little file ∷ []
 
--- what it is made for
+-- the file's target
 abbrev pub target_tests : FileHeader → List (Option ElfErr)
 target_tests h = not_executable h ∷ not_riscv h ∷ needs_compressed h ∷ needs_float h ∷ needs_rve h ∷ []
 

@@ -1,4 +1,4 @@
--- The test of a symbol table finds whether it can be read.
+-- The test of a symbol table determines whether it can be read.
 use Rattle.std.proofs.Common.{◌≡◌, ℕ, ◌+◌, ◌-◌, ◌%◌, ◌<◌, ◌≤◌, List, length, drop, All, Bool, true, false, get_or, zero, suc, [], ◌∷◌, refl, sym, subst, arith}
 use Rattle.std.specs.Prelude.{nat_lt, not, ◌&&◌, ◌==◌, slice_index}
 use Rattle.std.specs.List.{list_all}
@@ -9,7 +9,7 @@ use Rattle.elf_view.specs.Fields.{bytes_at, ends_beyond}
 use Rattle.elf_view.specs.Headers.{file_header, number_of_sections}
 use Rattle.elf_view.specs.Sections.{is_within_file, section_bytes, entries_of, has_whole_entries, ends_in_nul, names_begin_in, has_sound_names, is_sound_table, section_at, HasNames, IsReadable}
 
--- of two tests that both hold each holds
+-- of two tests that both hold, each holds
 pub both_hold : (a b : Bool) → (a && b) ≡ true → (a ≡ true) × (b ≡ true)
 both_hold true b e = (refl, e)
 both_hold false b e = cc
@@ -19,32 +19,32 @@ pub never : (a : Bool) → a ≡ true → a ≡ false → ⊥
 never true e h = cc
 never false e h = cc
 
--- two tests that hold hold together
+-- two tests that each hold also hold together
 pub both_true : (a b : Bool) → a ≡ true → b ≡ true → (a && b) ≡ true
 both_true true b e f = f
 both_true false b e f = cc
 
--- what a test of all elements says of each
+-- what a test of all elements says about each
 all_hold : {X : Type 0} (p : X → Bool) (xs : List X) → list_all p xs ≡ true → All (λ x. p x ≡ true) xs
 all_hold p [] e k d within = absurd (omega arith)
 all_hold p (x ∷ xs) e zero d within = (both_hold (p x) (list_all p xs) e).0
 all_hold p (x ∷ xs) e (suc k) d within = all_hold p xs (both_hold (p x) (list_all p xs) e).1 k d (omega arith)
 
--- a test that holds of each element holds of all
+-- a test that holds for each element holds for all
 all_true : {X : Type 0} (p : X → Bool) (xs : List X) → All (λ x. p x ≡ true) xs → list_all p xs ≡ true
 all_true p [] all = refl
 all_true p (x ∷ xs) all = both_true (p x) (list_all p xs) (all 0 x (omega arith)) (all_true p xs (λ k d within. all (suc k) d (omega arith)))
 
--- a test whose negation holds fails
+-- a test whose negation holds is false
 turned : (a : Bool) → not a ≡ true → a ≡ false
 turned true e = cc
 turned false e = refl
 
--- bytes lie in the file where they are tested not to end beyond it
+-- bytes are in the file if the test says that they do not end beyond it
 pub lies-within : (file : List ℕ) (at size : ℕ) → not (ends_beyond file at size) ≡ true → at + size ≤ length file
 lies-within file at size e = let inside : nat_lt (length file) (at + size) ≡ false = turned _ e in grind (arith, nat_tests)
 
--- and only there
+-- and only then
 pub within-lies : (file : List ℕ) (at size : ℕ) → at + size ≤ length file → not (ends_beyond file at size) ≡ true
 within-lies file at size within = let inside : nat_lt (length file) (at + size) ≡ false = grind (arith, nat_tests) in rw inside refl
 
@@ -53,7 +53,7 @@ pub length-bytes_at : (file : List ℕ) (at size : ℕ) → at + size ≤ length
 length-bytes_at file at size within = let rest : length (drop at file) ≡ length file - at = length-drop at file in
     length-take-le size (drop at file) (omega arith)
 
--- what the test of the last byte says
+-- what the test of the last byte means
 nul-closed : (bytes : List ℕ) (size : ℕ) → length bytes ≡ size → ends_in_nul bytes ≡ true → (0 < size) × (slice_index bytes (size - 1) ≡ 0)
 nul-closed bytes size e h =
     let tests = both_hold (nat_lt 0 (length bytes)) (slice_index bytes (length bytes - 1) == 0) h in
@@ -62,7 +62,7 @@ nul-closed bytes size e h =
     let at : slice_index bytes (length bytes - 1) ≡ 0 = grind (arith, nat_tests) in
     (grind (arith, nat_tests), subst (λ (n : ℕ). slice_index bytes (n - 1) ≡ 0) e at)
 
--- and when it holds
+-- and when the test holds
 closed-nul : (bytes : List ℕ) (size : ℕ) → length bytes ≡ size → 0 < size → slice_index bytes (size - 1) ≡ 0 → ends_in_nul bytes ≡ true
 closed-nul bytes size e some at =
     let last : slice_index bytes (length bytes - 1) ≡ 0 = subst (λ (n : ℕ). slice_index bytes (n - 1) ≡ 0) (sym e) at in
@@ -72,11 +72,11 @@ closed-nul bytes size e some at =
 below-true : (a b : ℕ) → a < b → nat_lt a b ≡ true
 below-true a b h = grind (arith, nat_tests)
 
--- and the other way round
+-- and conversely
 true-below : (a b : ℕ) → nat_lt a b ≡ true → a < b
 true-below a b h = grind (arith, nat_tests)
 
--- names that pass the test are what they are tested for
+-- names that pass the test have the properties tested
 sound-names : (file : List ℕ) (table names : SectionHeader) → has_sound_names file table names ≡ true → HasNames file names (entries_of file table)
 sound-names file table names e =
     let lies = both_hold (is_within_file file names) (ends_in_nul (section_bytes file names) && names_begin_in names (entries_of file table)) e in
@@ -101,11 +101,11 @@ names-sound file table names h =
     (all_true (λ e. nat_lt e.name names.size) (entries_of file table) (λ k d below. below-true (get_or (entries_of file table) k d).name names.size
     (h.begin k d below))))
 
--- whole entries, by the test
+-- whole entries, according to the test
 whole-true : (table : SectionHeader) → table.entry_size ≡ 16 → table.size % 16 ≡ 0 → has_whole_entries table ≡ true
 whole-true table e h = both_true (table.entry_size == 16) (table.size % 16 == 0) (grind (arith, nat_tests)) (grind (arith, nat_tests))
 
--- and the other way round
+-- and conversely
 true-whole : (table : SectionHeader) → has_whole_entries table ≡ true → (table.entry_size ≡ 16) × (table.size % 16 ≡ 0)
 true-whole table e = let tests = both_hold (table.entry_size == 16) (table.size % 16 == 0) e in
     let first : (table.entry_size == 16) ≡ true = tests.0 in let second : (table.size % 16 == 0) ≡ true = tests.1 in

@@ -1,4 +1,4 @@
--- What each refusal says of the file, taken by itself.
+-- What each refusal says about the file, taken by itself.
 use Rattle.std.specs.Prelude.{◌≡◌, ◌≢◌, ◌⊎◌, ℕ, ◌+◌, ◌*◌, ◌<◌, ◌≤◌, List, [], ◌∷◌, length, take, slice_index, bit_and, true, Some}
 use Rattle.std.specs.List.{Any, HoldsAt}
 use Rattle.elf_view.specs.Fields.{FitsIn}
@@ -18,15 +18,15 @@ pub record IsFirstCut (file : List ℕ) (at size count place : ℕ) : Type 0 whe
   pub beyond : length file < place + size
   pub first : (k : ℕ) → k < index → (at + size * k) + size ≤ length file
 
--- the file ends before its header, or before the first of the program headers, or these lie in it and it ends before
--- the first of the section headers
+-- the file ends before its header, or before the first of the program headers, or these are in the file and it ends
+-- before the first of the section headers
 abbrev pub IsCutShort : List ℕ → FileHeader → ℕ → Type 0
 IsCutShort file h place =
     ((length file < 52) × (place ≡ 0))
     ⊎ (IsFirstCut file h.program_offset 32 h.program_count place
     ⊎ (FitsIn file h.program_offset 32 h.program_count × IsFirstCut file h.section_offset 40 (number_of_sections h) place))
 
--- there are headers of that size, which is wrong: program headers, or section headers
+-- there are headers of that size, and it is wrong: program headers, or section headers
 abbrev pub IsWrongSize : FileHeader → ℕ → Type 0
 IsWrongSize h size =
     ((0 < h.program_count) × (h.program_size ≡ size) × (size ≢ 32))
@@ -38,15 +38,15 @@ pub record IsFirstHeader (So : ProgramHeader → Type 0) (headers : List Program
   pub so : HoldsAt So headers index
   pub first : (k : ℕ) → k < index → HoldsAt (λ h. ¬ So h) headers k
 
--- a segment that is loaded ends beyond the file
+-- a loaded segment ends beyond the file
 abbrev pub EndsBeyond : List ℕ → ProgramHeader → Type 0
 EndsBeyond file h = (is_loaded h ≡ true) × (length file < h.offset + h.filesz)
 
--- a segment that is loaded has more bytes in the file than in memory
+-- a loaded segment has more bytes in the file than in memory
 abbrev pub IsLarger : ProgramHeader → Type 0
 IsLarger h = (is_loaded h ≡ true) × (h.memsz < h.filesz)
 
--- what a refusal says of the file
+-- what a refusal says about the file
 abbrev pub IsElfCause : List ℕ → ElfErr → Type 0
 IsElfCause file (TooShort place) = IsCutShort file (file_header file) place
 IsElfCause file NotElf = take 4 file ≢ 0x7F ∷ 0x45 ∷ 0x4C ∷ 0x46 ∷ []

@@ -23,14 +23,15 @@ pub record HasTarget (h : FileHeader) : Type 0 where
   pub no_float : bit_and h.flags 6 ≡ 0
   pub not_embedded : bit_and h.flags 8 ≡ 0
 
--- the tables of headers have entries of 32 and of 40 bytes, and lie in the file
+-- the tables of headers have entries of 32 and of 40 bytes, and are in the file
 pub record HasTables (file : List ℕ) (h : FileHeader) : Type 0 where
   pub program_size : 0 < h.program_count → h.program_size ≡ 32
   pub section_size : 0 < number_of_sections h → h.section_size ≡ 40
   pub programs : FitsIn file h.program_offset 32 h.program_count
   pub sections : FitsIn file h.section_offset 40 (number_of_sections h)
 
--- a file that can be viewed: no interpreter, and segments and a symbol table, if there is one, whose bytes lie in it
+-- a file that can be viewed: no interpreter, and segments and a symbol table, if there is one, whose bytes are in the
+-- file
 pub record IsElf (file : List ℕ) : Type 0 where
   pub identity : HasIdentity file
   pub target : HasTarget (file_header file)

@@ -11,23 +11,23 @@ half file at = little_number 2 (drop at file)
 unfoldable pub word : List ℕ → ℕ → ℕ
 word file at = little_number 4 (drop at file)
 
--- that many bytes of the file from the offset on
+-- this many bytes of the file from the offset on
 abbrev pub bytes_at : List ℕ → ℕ → ℕ → List ℕ
 bytes_at file at count = take count (drop at file)
 
--- whether that many bytes from the offset on end beyond the file
+-- whether this many bytes from the offset on end beyond the file
 abbrev pub ends_beyond : List ℕ → ℕ → ℕ → Bool
 ends_beyond file at count = nat_lt (length file) (at + count)
 
--- the offsets of the entries of a table: that many of one size, one after the other
+-- the offsets of the entries of a table: this many of one size, one after another
 abbrev pub entry_offsets : ℕ → ℕ → ℕ → List ℕ
 entry_offsets at size zero = []
 entry_offsets at size (suc count) = at ∷ entry_offsets (at + size) size count
 
--- the entries of a table in the file: that many of one size, each read where it begins
+-- the entries of a table in the file: this many of one size, each read where it begins
 abbrev pub entries : {E : Type 0} → (List ℕ → ℕ → E) → ℕ → List ℕ → ℕ → ℕ → List E
 entries read size file at count = map (read file) (entry_offsets at size count)
 
--- a table of that many entries of one size lies in the file; an empty one lies anywhere
+-- a table of this many entries of one size is in the file; an empty one may be anywhere
 abbrev pub FitsIn : List ℕ → ℕ → ℕ → ℕ → Type 0
 FitsIn file at size count = 0 < count → at + size * count ≤ length file

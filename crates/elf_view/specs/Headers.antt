@@ -59,7 +59,7 @@ program_places h = entry_offsets h.program_offset 32 h.program_count
 abbrev pub program_headers : List ℕ → List ProgramHeader
 program_headers file = entries program_header 32 file (file_header file).program_offset (file_header file).program_count
 
--- how many section headers there are: none where the file gives no offset for their table
+-- how many section headers there are: none if the file gives no offset for their table
 abbrev pub number_of_sections : FileHeader → ℕ
 number_of_sections h = if h.section_offset == 0 then 0 else h.section_count
 

@@ -13,7 +13,7 @@ use Rattle.elf_view.specs.declared.headers.ProgramHeader.{ProgramHeader}
 use Rattle.elf_view.specs.declared.refusal.ElfErr.{ElfErr}
 use Rattle.elf_view.specs.declared.refusal.ElfErr.TheVariants.{TooShort, NotElf, Not32Little, NotRiscv, NotExecutable, NeedsCompressed, NeedsFloat, NeedsRve, BadHeaderSize, OutsideFile, FileLargerThanMemory, NeedsInterpreter, BadSymbols}
 
--- the error, where the test finds the fault
+-- the error, if the test finds the fault
 abbrev pub where_so : Bool → ElfErr → Option ElfErr
 where_so fault e = if fault then Some e else None
 
@@ -30,7 +30,7 @@ no_file_header file = where_so (nat_lt (length file) 52) (TooShort 0)
 abbrev pub starts_with_elf : List ℕ → Bool
 starts_with_elf file = starts_with nat_eq file (0x7F ∷ 0x45 ∷ 0x4C ∷ 0x46 ∷ [])
 
--- the file does not begin with these
+-- the file does not begin with these bytes
 unfoldable pub not_elf : List ℕ → Option ElfErr
 not_elf file = where_so (not (starts_with_elf file)) NotElf
 
@@ -58,11 +58,11 @@ needs_float h = where_so (not (bit_and h.flags 6 == 0)) NeedsFloat
 unfoldable pub needs_rve : FileHeader → Option ElfErr
 needs_rve h = where_so (not (bit_and h.flags 8 == 0)) NeedsRve
 
--- there are program headers, and they do not have 32 bytes
+-- there are program headers, and their size is not 32 bytes
 unfoldable pub bad_program_size : FileHeader → Option ElfErr
 bad_program_size h = where_so (not (h.program_count == 0) && not (h.program_size == 32)) (BadHeaderSize h.program_size)
 
--- there are section headers, and they do not have 40 bytes
+-- there are section headers, and their size is not 40 bytes
 unfoldable pub bad_section_size : FileHeader → Option ElfErr
 bad_section_size h = where_so (not (number_of_sections h == 0) && not (h.section_size == 40)) (BadHeaderSize h.section_size)
 
@@ -78,7 +78,7 @@ cut_section_header file = option_map TooShort (find (λ at. ends_beyond file at 
 unfoldable pub needs_interpreter : List ℕ → Option ElfErr
 needs_interpreter file = where_so (list_any is_interpreter (program_headers file)) NeedsInterpreter
 
--- the bytes of a segment that is loaded end beyond the file
+-- the bytes of a loaded segment end beyond the file
 abbrev pub ends_outside : List ℕ → ProgramHeader → Bool
 ends_outside file h = is_loaded h && ends_beyond file h.offset h.filesz
 
@@ -86,7 +86,7 @@ ends_outside file h = is_loaded h && ends_beyond file h.offset h.filesz
 unfoldable pub outside_file : List ℕ → Option ElfErr
 outside_file file = option_map OutsideFile (position (ends_outside file) (program_headers file))
 
--- a segment that is loaded has more bytes in the file than in memory
+-- a loaded segment has more bytes in the file than in memory
 abbrev pub is_larger : ProgramHeader → Bool
 is_larger h = is_loaded h && nat_lt h.memsz h.filesz
 

@@ -19,7 +19,7 @@ first_symbol_table file = position is_symbol_table (section_headers file)
 abbrev pub section_at : List ℕ → ℕ → SectionHeader
 section_at file index = section_header file ((file_header file).section_offset + 40 * index)
 
--- the bytes of a section lie in the file
+-- the bytes of a section are in the file
 abbrev pub is_within_file : List ℕ → SectionHeader → Bool
 is_within_file file s = not (ends_beyond file s.offset s.size)
 
@@ -43,17 +43,17 @@ ends_in_nul bytes = nat_lt 0 (length bytes) && (slice_index bytes (length bytes 
 abbrev pub names_begin_in : SectionHeader → List SymbolEntry → Bool
 names_begin_in names entries = list_all (λ e. nat_lt e.name names.size) entries
 
--- the names lie in the file and end in NUL, and each symbol's name begins in them
+-- the names are in the file and end in NUL, and each symbol's name begins in them
 abbrev pub has_sound_names : List ℕ → SectionHeader → SectionHeader → Bool
 has_sound_names file table names = is_within_file file names && (ends_in_nul (section_bytes file names) && names_begin_in names (entries_of file table))
 
--- the symbol table can be read: whole entries that lie in the file, and a section of names, which exists and is sound
+-- the symbol table can be read: whole entries that are in the file, and a section of names, which exists and is sound
 abbrev pub is_sound_table : List ℕ → SectionHeader → Bool
 is_sound_table file table =
     has_whole_entries table && (is_within_file file table && (nat_lt table.link (number_of_sections (file_header file))
     && has_sound_names file table (section_at file table.link)))
 
--- the section has names for the entries: its bytes lie in the file and end in NUL, and the name of each entry begins in
+-- the section has names for the entries: its bytes are in the file and end in NUL, and the name of each entry begins in
 -- them
 pub record HasNames (file : List ℕ) (names : SectionHeader) (entries : List SymbolEntry) : Type 0 where
   pub within : names.offset + names.size ≤ length file
@@ -61,7 +61,7 @@ pub record HasNames (file : List ℕ) (names : SectionHeader) (entries : List Sy
   pub closed : slice_index (section_bytes file names) (names.size - 1) ≡ 0
   pub begin : All (λ e. e.name < names.size) entries
 
--- the section is a symbol table that can be read: whole entries of 16 bytes that lie in the file, and a section with
+-- the section is a symbol table that can be read: whole entries of 16 bytes that are in the file, and a section with
 -- their names
 pub record IsReadable (file : List ℕ) (table : SectionHeader) : Type 0 where
   pub entry_size : table.entry_size ≡ 16

@@ -39,14 +39,14 @@ symbols_at file (Some index) = symbols_in file (section_at file index)
 unfoldable pub symbols_of : List ℕ → List NamedSymbol
 symbols_of file = symbols_at file (first_symbol_table file)
 
--- the symbol has a name that is not empty
+-- the symbol has a nonempty name
 abbrev pub has_name : NamedSymbol → Bool
 has_name symbol = not (length symbol.name == 0)
 
--- a symbol, as contracts see it
+-- a symbol as contracts see it
 abbrev pub shown_symbol : Symbol → NamedSymbol
 shown_symbol s = record { name = s.name.now; value = s.value; size = s.size }
 
--- the symbol before its name is looked up, as contracts see it: the names begin with its own
+-- the symbol before its name is looked up, as contracts see it: the stored names begin with its own
 abbrev pub shown_lazy : LazySymbol → NamedSymbol
 shown_lazy s = record { name = first_text s.names.now; value = s.value; size = s.size }

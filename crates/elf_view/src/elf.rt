@@ -64,7 +64,7 @@ impl<'a> Elf<'a> {
         Ok(Elf { file, header })
     }
 
-    /// The address at which the program begins.
+    /// The entry point of the program.
     pub fn entry(&self) -> u32
         ensures { result ≡ (file_header self.now).entry }
     {

@@ -1,4 +1,4 @@
-//! The entries of a table in a file, one after the other.
+//! The entries of a table in a file, one after another.
 
 ghost use Rattle.std.specs.Prelude.{◌≡◌, ℕ, ◌+◌, ◌*◌, ◌<◌, ◌≤◌, List, length};
 ghost use Rattle.elf_view.specs.Fields.{FitsIn};
@@ -20,7 +20,7 @@ pub trait Entry: Copy {
         ensures { result ≡ entry_at file.now at };
 }
 
-/// The entries that are left of a table in the file.
+/// The remaining entries of a table in the file.
 #[derive(Drop)]
 pub struct Entries<'a, E: Entry> {
     file: &'a [u8],

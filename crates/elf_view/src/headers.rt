@@ -41,7 +41,7 @@ impl FileHeader {
         }
     }
 
-    /// How many section headers there are: none where the file gives no offset for their table.
+    /// How many section headers there are: none if the file gives no offset for their table.
     pub(crate) fn number_of_sections(&self) -> u16
         ensures { result ≡ number_of_sections self.now }
     {

@@ -15,7 +15,7 @@ use crate::sections::{first_symbol_table, is_sound_table, section_at};
 #[derive(Clone, Copy, Debug, PartialEq, Eq)]
 pub enum ElfErr {
     /// The file ends before the file header does (then 0), or before the end of the header at this offset: the first
-    /// such program header, or where there is none the first such section header.
+    /// such program header, or if there is none the first such section header.
     TooShort(u64),
     /// It does not begin with the bytes 7F 45 4C 46.
     NotElf,
@@ -31,7 +31,7 @@ pub enum ElfErr {
     NeedsFloat,
     /// Its flags say that it is for the embedded instruction set of 16 registers.
     NeedsRve,
-    /// Its program headers have this size instead of 32, or its section headers instead of 40.
+    /// Its program headers have this size instead of 32 bytes, or its section headers instead of 40.
     BadHeaderSize(u16),
     /// The bytes of the segment of this program header end beyond the file.
     OutsideFile(u32),
@@ -40,8 +40,8 @@ pub enum ElfErr {
     /// A program header names an interpreter.
     NeedsInterpreter,
     /// The first symbol table, the section at this index, is not sound: its entries are not whole ones of 16 bytes, it
-    /// or the section of its names does not lie in the file, that section does not exist, the names do not end in NUL,
-    /// or a symbol's name begins beyond them.
+    /// or the section of its names is not in the file, that section does not exist, the names do not end in NUL, or a
+    /// symbol's name begins beyond them.
     BadSymbols(u32),
 }
 
@@ -101,7 +101,7 @@ fn check_target(header: &FileHeader) -> Result<(), ElfErr>
 }
 
 impl ProgramHeader {
-    /// Whether the header is that of an interpreter's name.
+    /// Whether the header names an interpreter.
     fn is_interpreter(&self) -> bool
         ensures { result ≡ is_interpreter self.now }
     {
@@ -185,7 +185,7 @@ fn check_tables(file: &[u8], header: &FileHeader) -> Result<(), ElfErr>
     Ok(())
 }
 
-/// Whether a program header is that of an interpreter's name.
+/// Whether a program header names an interpreter.
 fn has_interpreter(file: &[u8], header: &FileHeader) -> bool
     requires header { header.now ≡ file_header file.now }
     requires fits { FitsIn file.now header.now.program_offset 32 header.now.program_count }

@@ -18,7 +18,7 @@ impl SectionHeader {
         self.kind == SYMBOL_TABLE
     }
 
-    /// Whether the bytes of the section lie in the file.
+    /// Whether the bytes of the section are in the file.
     fn lies_in(&self, file: &[u8]) -> bool
         ensures { result ≡ is_within_file file.now self.now }
     {
@@ -71,7 +71,7 @@ fn names_begin_in(names: &SectionHeader, mut entries: Entries<SymbolEntry>) -> b
     entries.all(|entry| entry.name < names.size)
 }
 
-/// Whether the names lie in the file and end in NUL, and the name of each symbol begins in them.
+/// Whether the names are in the file and end in NUL, and the name of each symbol begins in them.
 fn has_sound_names(file: &[u8], table: &SectionHeader, names: &SectionHeader) -> bool
     requires { IsTrue (is_within_file file.now table.now) }
     ensures { result ≡ has_sound_names file.now table.now names.now }

@@ -15,7 +15,7 @@ pub struct Segment<'a> {
     pub memsz: u32,
     /// Whether the program may write to it.
     pub write: bool,
-    /// Whether its words may be fetched as instructions.
+    /// Whether its words can be fetched as instructions.
     pub exec: bool,
     pub ghost room: { length bytes.now ≤ memsz },
 }

@@ -39,7 +39,7 @@ impl ProgramHeader {
 }
 
 impl<'a> Entries<'a, ProgramHeader> {
-    /// The next header of a segment that is loaded.
+    /// The next header of a loaded segment.
     fn next_load(&mut self) -> Option<ProgramHeader>
         ensures { MatchOption result
             ((loads_in self.old.file.now self.old.at self.old.left ≡ [])

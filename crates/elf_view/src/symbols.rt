@@ -70,7 +70,7 @@ impl<'a> LazySymbol<'a> {
         }
     }
 
-    /// Whether it has a name that is not empty.
+    /// Whether it has a nonempty name.
     #[tactic(auto, using(crate::proofs::Names::names))]
     pub fn is_named(&self) -> bool
         ensures { result ≡ has_name (shown_lazy self.now) }

@@ -23,7 +23,7 @@ use Rattle.layout_file.specs.Reading.{integers_of, units_among, first_nameless, 
 use Rattle.layout_file.proofs.Documents.{integers, names, place, unit_table, siding_table, siding_items, top_table, table_of}
 use Rattle.layout_file.proofs.Filling.{get-place-other}
 
--- arrays give back what they hold
+-- an array is read as the list from which it was made
 integers-back : (zs : List ℤ) → integers_of (integers zs) ≡ zs
 integers-back [] = refl
 integers-back (z ∷ zs) = ap (λ t. z ∷ t) (integers-back zs)
@@ -35,7 +35,7 @@ integers-fit (z ∷ zs) = let (a, b) = integers-fit zs in (a, rw b)
 integers-array : (zs : List ℤ) → length zs ≤ 1000 → is_list_of Integer (array (integers zs)) ≡ true
 integers-array zs few = let (a, b) = integers-fit zs in rw (b, le-leb (length zs) 1000 few, a)
 
--- the name of a class is read as that class, in this format
+-- the name of a class is read as that class in this format
 abbrev pub IsWord : Format → Class → Type 0
 IsWord format c = class_by_name format (class_name c) ≡ Some c
 
@@ -60,7 +60,7 @@ siding-right : (format : Format) (s : Siding) → AreWords format s.classes → 
 unfolding siding_fault entries_fault knows fits
 siding-right format s words few = let (a, b, t, n) = names-back format s.classes words in rw (names-array format s.classes words few, b)
 
--- each siding's classes are few, and have names in the format
+-- each siding has few classes, and each class has a name in the format
 abbrev pub AreRight : Format → List Siding → Type 0
 AreRight format [] = Unit {0}
 AreRight format (s ∷ ss) = ((length s.classes ≤ 1000) × AreWords format s.classes) × AreRight format ss
@@ -196,7 +196,7 @@ fits-class format c zs few = integers-array zs few
 abbrev RightUnits : Format → Members → Type 0
 RightUnits format ms = (first_unknown_key (kind.Units format) ms ≡ None) × (first_misfit_key (kind.Units format) ms ≡ None)
 
--- the stages are few, and the class has a name in the format where it has some
+-- the stages are few, and a class that has stages has a name in the format
 abbrev pub IsRightUnit : Format → Class → List ℕ → Type 0
 IsRightUnit format c stages = (length stages ≤ 1000) × (1 ≤ length stages → IsWord format c)
 

@@ -1,4 +1,4 @@
--- What a document requests names computed classes alone.
+-- Every class that a document requests is a computed one.
 use Rattle.std.proofs.Common.{ℤ, List, [], ◌∷◌, ◌++◌, All, Option, Some, None, codes}
 use Rattle.std.specs.Prelude.{unwrap_or}
 use Rattle.std.proofs.lemmas.List.Elements.{All-cons, All-nil}
@@ -14,7 +14,7 @@ use Rattle.layout_file.specs.Names.{class_name, class_by_name}
 use Rattle.layout_file.specs.Reading.{classes_of, items_at, members_at, unit_in, units_among, siding_in, sidings_of, sidings_in, parts_in, text_in, integers_of, items_in}
 use Rattle.layout_file.proofs.Words.{AllSmall, all_small, word_computed}
 
--- so does each text of an array
+-- the same for each text of an array
 classes_computed : (format : Format) (ds : Items) → All IsComputed (classes_of format ds)
 classes_computed format no_items = All-nil IsComputed
 classes_computed format (item d ds) = All-cons IsComputed (unwrap_or (class_by_name format (text_in d)) Add) (classes_of format ds)

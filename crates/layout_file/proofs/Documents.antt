@@ -25,7 +25,7 @@ abbrev pub format_number : Format → ℤ
 format_number First = pos 1
 format_number Second = pos 2
 
--- the members and that of the cache, which exists only in format 2
+-- the members, with that of the cache, which exists only in format 2
 abbrev pub cache_member : Format → Bool → Members → Members
 cache_member First cache rest = rest
 cache_member Second cache rest = member (codes "cache") (boolean cache) rest
@@ -44,7 +44,7 @@ abbrev pub siding_tables : List Siding → Items
 siding_tables [] = no_items
 siding_tables (s ∷ ss) = item (table (siding_members s)) (siding_tables ss)
 
--- the sidings, where there is one
+-- the sidings, if there is one
 abbrev pub sidings_last : List Siding → Members
 sidings_last [] = no_members
 sidings_last (s ∷ ss) = member (codes "siding") (array (item (table (siding_members s)) (siding_tables ss))) no_members
@@ -73,7 +73,7 @@ abbrev pub siding_items : List Siding → Items
 siding_items [] = no_items
 siding_items (s ∷ ss) = item (table (siding_table s)) (siding_items ss)
 
--- the sidings, where there is one
+-- the sidings, if there is one
 abbrev pub siding_member : List Siding → Members → Members
 siding_member [] rest = rest
 siding_member (s ∷ ss) rest = member (codes "siding") (array (item (table (siding_table s)) (siding_items ss))) rest
@@ -91,7 +91,7 @@ top_table format p units = cache_member format p.cache (member (codes "format") 
 abbrev pub table_of : Format → Parts → Members
 table_of format p = top_table format p (unit_table p.units no_members)
 
--- no array of integers or of names is an array of tables
+-- an array of integers or of names is not an array of tables
 pub integers_pair : (zs : List ℤ) → is_section (array (integers zs)) ≡ false
 integers_pair [] = refl
 integers_pair (z ∷ zs) = refl
@@ -100,7 +100,7 @@ pub names_pair : (cs : List Class) → is_section (array (names cs)) ≡ false
 names_pair [] = refl
 names_pair (c ∷ cs) = refl
 
--- but the sidings are
+-- the array of sidings is
 pub sidings_tables : (ss : List Siding) → are_tables (siding_tables ss) ≡ true
 sidings_tables [] = refl
 sidings_tables (s ∷ ss) = sidings_tables ss

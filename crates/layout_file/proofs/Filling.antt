@@ -17,7 +17,7 @@ use Rattle.layout_file.specs.declared.format.Format.TheVariants.{First, Second}
 use Rattle.layout_file.specs.Names.{class_name}
 use Rattle.layout_file.proofs.Documents.{integers, names, format_number, unit_members, siding_members, siding_tables, sidings_last, file_members, place, unit_table, siding_table, siding_items, top_table, table_of, integers_pair, names_pair, sidings_tables}
 
--- a key that is missing is put at its position
+-- a key that is missing is inserted at its position
 absent-step : (o : Ordering) (x : Node) (d : Data) (a : Option Node) (b : Option Data) → match_ordering o b (Some d) b ≡ None → (b ≡ None → a ≡ None) →
     cond (is_eq o) (Some x) a ≡ None
 absent-step Less x d a b h ih = ih h
@@ -42,7 +42,7 @@ put-absent : (k : List ℕ) (d : Data) (ns : Nodes) → get_member k (close ns) 
 unfolding along_dots at_key
 put-absent k d ns h = (insert k (value d) ns, rw (absent k ns h), close-insert k (value d) ns)
 
--- another key finds what it found
+-- another key keeps its value
 other-step : (o : Ordering) (p : Ordering) (d e : Data) (r s : Option Data) → is_eq p ≡ false → r ≡ s → match_ordering p r (Some d) r ≡ s
 other-step o Less d e r s h same = same
 other-step o Equal d e r s h same = absurd (false≢true (sym h))
@@ -110,7 +110,7 @@ siding_filled : (s : Siding) → fill (siding_members s) no_nodes ≡ Some (sidi
 unfolding along_dots at_key
 siding_filled s = rw (names_pair s.classes)
 
--- the nodes and that of the cache, which exists only in format 2
+-- the nodes, with that of the cache, which exists only in format 2
 abbrev cache_node : Format → Bool → Nodes → Nodes
 cache_node First cache rest = rest
 cache_node Second cache rest = node (codes "cache") (value (boolean cache)) rest
@@ -187,7 +187,7 @@ unfolding at_key
 first_siding First p units = refl
 first_siding Second p units = refl
 
--- what the root is closed to, while sidings are read and where there is no siding
+-- the table that the root becomes, while sidings are read and if there is none
 close_with : (format : Format) (p : Parts) (units : Nodes) (s : Siding) (ss : List Siding) (done : Items) (last : Nodes) → p.sidings ≡ s ∷ ss →
     push_item done (table (close last)) ≡ siding_items (s ∷ ss) → close (root_with format p units done last) ≡ top_table format p (close units)
 close_with First p units s ss done last e shape = rw (e, shape) refl

@@ -181,7 +181,7 @@ table_faultless plan a =
       asking_passes plan a,
     ) refl
 
--- its text describes it, where it is UTF-8
+-- its text describes it, if it is UTF-8
 pub text_describes : (plan : Plan) → IsAccepted plan → IsUtf8 (layout_text plan) → Describes (layout_text plan) plan
 unfolding layout_text
 text_describes plan a utf8 = (
@@ -232,7 +232,7 @@ text_reads plan file a is utf8 =
       readable = λ e fails. fails_by file plan e d fails;
     }
 
--- where such a file is not read, the answer is that memory ran out
+-- if such a file is not read, the answer is that memory ran out
 pub read_fails : {T : Type 0} (file : List ℕ) (plan : Plan) (r : Result T FileErr) → ReadsAs file plan → IfErr r (λ e. LayoutFails file e) →
     IfErr r (λ e. e ≡ NoMemory)
 read_fails file plan (Ok x) reads h = tt

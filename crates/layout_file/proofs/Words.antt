@@ -13,12 +13,12 @@ abbrev pub AllSmall : List Class → Type 0
 AllSmall [] = Unit {0}
 AllSmall (c ∷ cs) = IsComputed c × AllSmall cs
 
--- a class, or what comes after it, is computed where both are
+-- a class, or otherwise what comes after it, is computed if both are
 either : (b : Bool) (c : Class) (rest : Option Class) → IsComputed c → IfSome rest IsComputed → IfSome (cond b (Some c) rest) IsComputed
 either true c rest here after = here
 either false c rest here after = after
 
--- so is what is found among them
+-- so what is found among computed classes is computed
 pub found_computed : (classes : List Class) (word : List ℕ) → AllSmall classes → IfSome (class_among classes word) IsComputed
 found_computed [] word small = tt
 found_computed (c ∷ cs) word small = either (same_text (class_name c) word) c _ small.0 (found_computed cs word small.1)
@@ -33,7 +33,7 @@ pub class_computed : (format : Format) (word : List ℕ) → IfSome (class_by_na
 unfolding class_by_name
 class_computed format word = found_computed (classes_in format) word (all_small format)
 
--- where it names no class, `add` is computed too
+-- if it names no class, `add` is used, which is computed too
 or_add : (o : Option Class) → IfSome o IsComputed → IsComputed (unwrap_or o Add)
 or_add None h = omega arith
 or_add (Some c) h = h

@@ -21,7 +21,7 @@ IsNotToml file = IsUtf8 file → parse_document file ≡ None
 abbrev pub IsDocument : List ℕ → Members → Type 0
 IsDocument file ms = IsUtf8 file × (parse_document file ≡ Some ms)
 
--- the file is not read as a document: it is too long, memory ran out, or it is no TOML document
+-- the file is not read as a document: it is too long, memory ran out, or it is not a TOML document
 abbrev pub LacksDocument : List ℕ → FileErr → Type 0
 LacksDocument file e = ((e ≡ TooLong) × (most_layout_bytes < length file))
     ⊎ ((length file ≤ most_layout_bytes) × ((e ≡ NoMemory) ⊎ ((e ≡ NotToml) × IsNotToml file)))
@@ -30,7 +30,7 @@ LacksDocument file e = ((e ≡ TooLong) × (most_layout_bytes < length file))
 abbrev pub HasFault : (Members → Option FileErr) → List ℕ → FileErr → Type 0
 HasFault fault_in file e = (ms : Members) × IsDocument file ms × (fault_in ms ≡ Some e)
 
--- why reading a file that is not too long fails: it is out of memory, or the file is no document or a document with a
+-- why reading a file that is not too long fails: memory ran out, the file is not a document, or it is a document with a
 -- fault
 abbrev pub FailsWithin : (Members → Option FileErr) → List ℕ → FileErr → Type 0
 FailsWithin fault_in file e = (e ≡ NoMemory) ⊎ (((e ≡ NotToml) × IsNotToml file) ⊎ HasFault fault_in file e)
@@ -51,15 +51,14 @@ LayoutFails = FailsBy fault_of
 abbrev pub Describes : List ℕ → Plan → Type 0
 Describes = DescribesBy fault_of
 
--- the same, where the layout may break the rule on where control turns
+-- the same, if the layout may break the rule on where control turns
 abbrev pub LooseLayoutFails : List ℕ → FileErr → Type 0
 LooseLayoutFails = FailsBy loose_fault_of
 
 abbrev pub DescribesLoosely : List ℕ → Plan → Type 0
 DescribesLoosely = DescribesBy loose_fault_of
 
--- the file is read as the layout: it describes this layout and no other, and reading it fails only where memory runs
--- out
+-- the file is read as the layout: it describes this layout and no other, and reading it fails only if memory runs out
 pub record ReadsAs (file : List ℕ) (plan : Plan) : Type 0 where
   pub describes : Describes file plan
   pub alone : (other : Plan) → Describes file other → other ≡ plan

@@ -25,7 +25,7 @@ class_name Div = codes "div"
 abbrev pub same_text : List ℕ → List ℕ → Bool
 same_text s t = pointwise nat_eq s t
 
--- the class with this name among these
+-- the class with this name, one of these
 abbrev pub class_among : List Class → List ℕ → Option Class
 class_among classes word = find (λ c. same_text (class_name c) word) classes
 

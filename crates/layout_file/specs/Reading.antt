@@ -17,7 +17,7 @@ use Rattle.layout_file.specs.declared.fault.FileErr.TheVariants.{UnknownClass, U
 use Rattle.layout_file.specs.Names.{class_name, class_by_name}
 use Rattle.layout_file.specs.Tables.{entries_fault}
 
--- the value where it is of the type, or else 0, false or empty
+-- the value if it is of the type, and otherwise 0, false or empty
 abbrev pub integer_in : Data → ℤ
 integer_in d = unwrap_or (as_integer d) (pos 0)
 
@@ -56,12 +56,12 @@ abbrev pub classes_of : Format → Items → List Class
 classes_of format no_items = []
 classes_of format (item d ds) = unwrap_or (class_by_name format (text_in d)) Add ∷ classes_of format ds
 
--- the first string of an array that is no class's name
+-- the first string of an array that is not the name of a class
 abbrev pub first_nameless : Format → Items → Option (List ℕ)
 first_nameless format no_items = None
 first_nameless format (item d ds) = if is_some (class_by_name format (text_in d)) then first_nameless format ds else Some (text_in d)
 
--- the entry of a class, where the table has one
+-- the entry of a class, if the table has one
 abbrev pub unit_in : Class → Option Data → List (Class × List ℤ)
 unit_in c None = []
 unit_in c (Some d) = (c, integers_of (items_in d)) ∷ []
@@ -83,7 +83,7 @@ siding_in format ms = record {
   cells = integer_at (codes "cells") ms;
 }
 
--- an element of the array of sidings, where it is a table
+-- an element of the array of sidings, if it is a table
 abbrev pub siding_fault_in : Format → Option Members → Option FileErr
 siding_fault_in format None = None
 siding_fault_in format (Some ms) = siding_fault format ms
@@ -101,7 +101,7 @@ abbrev pub sidings_in : Format → Items → List Siding
 sidings_in format no_items = []
 sidings_in format (item d ds) = sidings_of format (as_table d) ++ sidings_in format ds
 
--- the format: 2 where the document says so, otherwise 1
+-- the format: 2 if the document says so, otherwise 1
 abbrev pub format_of : ℤ → Format
 format_of z = if is_integer 2 z then Second else First
 
@@ -121,7 +121,7 @@ tables_fault format ms =
     (option_or (entries_fault (kind.Units format) (members_at (codes "units") ms))
     (sidings_fault format (items_at (codes "siding") ms))))
 
--- there is a cache: in format 2 where the document says so, in format 1 never
+-- there is a cache: in format 2 if the document says so, in format 1 never
 abbrev pub cache_in : Format → Members → Bool
 cache_in First ms = false
 cache_in Second ms = truth_at (codes "cache") ms
@@ -140,10 +140,10 @@ parts_in format ms = record {
 abbrev pub requested_parts : Members → Parts
 requested_parts ms = parts_in (format_in ms) ms
 
--- the first fault of a document: of its tables, or else of the layout that they request
+-- the first fault of a document: of its tables, or otherwise of the layout that they request
 unfoldable pub fault_of : Members → Option FileErr
 fault_of ms = option_or (tables_fault (format_in ms) ms) (option_map Refused (first_refusal (requested_parts ms)))
 
--- the same, where the layout may break the rule on where control turns
+-- the same, if the layout may break the rule on where control turns
 unfoldable pub loose_fault_of : Members → Option FileErr
 loose_fault_of ms = option_or (tables_fault (format_in ms) ms) (option_map Refused (loose_refusal (requested_parts ms)))

@@ -88,7 +88,7 @@ abbrev pub first_misfit_key : TableKind → Members → Option (List ℕ)
 first_misfit_key f no_members = None
 first_misfit_key f (member k d ms) = if fits f k d then first_misfit_key f ms else Some k
 
--- the fault of a key that is not allowed: among the units it names no class
+-- the fault of a key that is not allowed: in the table of units it does not name a class
 abbrev pub unknown_in : TableKind → List ℕ → FileErr
 unknown_in (Top format) k = UnknownKey k
 unknown_in (Units format) k = UnknownClass k

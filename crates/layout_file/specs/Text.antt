@@ -48,7 +48,7 @@ abbrev pub siding_texts : List SidingPlan → List ℕ
 siding_texts [] = []
 siding_texts (s ∷ ss) = siding_text s ++ siding_texts ss
 
--- the lowest format that has what the layout has: format 2 where it has the cache, or multiplies and divides
+-- the lowest format that has what the layout has: format 2 if it has the cache, or multiplies and divides
 abbrev pub needed_format : Plan → Format
 needed_format plan = if plan.cache || has_mul plan then Second else First
 

@@ -2,7 +2,7 @@
 
 use crate::format::Format;
 
-/// The kind of a table in a layout file, with the format of the file where its keys depend on it.
+/// The kind of a table in a layout file, with the format of the file if its keys depend on it.
 #[derive(Clone, Copy)]
 pub(crate) enum TableKind {
     /// The whole document.

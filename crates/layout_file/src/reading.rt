@@ -158,7 +158,7 @@ fn siding_list(alloc: Global, format: Format, array: &[Value]) -> Result<Vec<Sid
     Ok(list)
 }
 
-/// Adds the entry of a class, where the table has one.
+/// Adds the entry of a class, if the table has one.
 fn add_unit(
     alloc: Global,
     list: &mut Vec<(Class, Listed<i64>)>,
@@ -220,7 +220,7 @@ fn format_of(number: i64) -> Format
     }
 }
 
-/// The format of the document: 2 where its key `format` says so, otherwise 1.
+/// The format of the document: 2 if its key `format` says so, otherwise 1.
 #[tactic(auto, unfolding(crate::specs::Reading::format_in))]
 fn format_in(table: &Table) -> Format
     ensures { result ≡ format_in (table_view table.now) }
@@ -239,7 +239,7 @@ fn check_format(format: Format, number: i64) -> Result<(), FileErr>
     }
 }
 
-/// Whether there is a cache: in format 2 where its key says so, in format 1 never.
+/// Whether there is a cache: in format 2 if its key says so, in format 1 never.
 fn cache_in(format: Format, table: &Table) -> bool
     ensures { result ≡ cache_in format (table_view table.now) }
 {
@@ -283,7 +283,7 @@ fn layout_in(alloc: Global, table: &Table) -> Result<Layout, FileErr>
     }
 }
 
-/// The same, where the layout may break the rule on where control turns.
+/// The same, if the layout may break the rule on where control turns.
 #[tactic(auto, unfolding(crate::specs::Reading::loose_fault_of))]
 fn loose_layout_in(alloc: Global, table: &Table) -> Result<LooseLayout, FileErr>
     ensures right { IfOk result (λ layout. loose_fault_of (table_view table.now) ≡ None) }
@@ -297,7 +297,7 @@ fn loose_layout_in(alloc: Global, table: &Table) -> Result<LooseLayout, FileErr>
     }
 }
 
-/// The greatest length of a layout file, in bytes.
+/// The maximum length of a layout file, in bytes.
 pub const MOST_LAYOUT: usize = 65_536;
 
 /// The document that the file is.
@@ -324,7 +324,7 @@ fn document(alloc: Global, file: &[u8]) -> Result<Table, FileErr>
 ///
 /// The tables are tested in this order: the document, `units`, each siding. In each, unknown keys are reported first,
 /// then missing ones, then values of the wrong type, each time the first key in byte order; then the format, or the
-/// first name in a siding that is no class's. The requested layout is tested last.
+/// first name in a siding that is not the name of a class. The requested layout is tested last.
 pub fn read_layout(alloc: Global, file: &[u8]) -> Result<Layout, FileErr>
     ensures ok { IfOk result (λ layout. Describes file.now layout) }
     ensures refused { IfErr result (λ error. LayoutFails file.now error) }
@@ -333,7 +333,7 @@ pub fn read_layout(alloc: Global, file: &[u8]) -> Result<Layout, FileErr>
     layout_in(alloc, &table)
 }
 
-/// Reads a layout file as `read_layout` does, but accepts a layout that breaks no rule but the one on where control
+/// Reads a layout file as `read_layout` does, but also accepts a layout that breaks only the rule on where control
 /// turns.
 pub fn read_layout_loosely(alloc: Global, file: &[u8]) -> Result<LooseLayout, FileErr>
     ensures ok { IfOk result (λ layout. DescribesLoosely file.now layout) }

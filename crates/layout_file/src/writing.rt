@@ -247,8 +247,8 @@ fn layout_text(alloc: Global, layout: &Layout) -> Result<String, AllocError>
     Ok(text)
 }
 
-/// Writes the canonical form of a layout: in format 1, or in format 2 where the layout has the cache or multiplies and
-/// divides. [`read_layout`](crate::read_layout) gives the layout back, unless memory runs out.
+/// Writes the canonical form of a layout: in format 1, or in format 2 if the layout has the cache or multiplies and
+/// divides. [`read_layout`](crate::read_layout) returns the same layout, unless memory runs out.
 #[tactic(auto, using(crate::proofs::ReadBack::text_reads))]
 pub fn write_layout(alloc: Global, layout: &Layout) -> Result<Vec<u8>, AllocError>
     ensures text { IfOk result (λ file. file.items ≡ layout_text layout.now) }

@@ -50,7 +50,7 @@ bytes_after-append cs addr [] ys = ap (λ (a : ℕ). bytes_after cs a ys) (omega
 bytes_after-append cs addr (x ∷ xs) ys = ap (λ (l : List ℕ). byte_after cs addr x ∷ l)
     (bytes_after-append cs (suc addr) xs ys ∙ ap (λ (a : ℕ). bytes_after cs (suc addr) xs ++ bytes_after cs a ys) (omega arith))
 
--- two lists of changes that do the same to each of the bytes
+-- two lists of changes that affect each of the bytes in the same way
 pub bytes_agree : (cs ds : List Change) (addr : ℕ) (bytes : List ℕ) →
     ((y o : ℕ) → addr ≤ y → y < addr + length bytes → byte_after cs y o ≡ byte_after ds y o) → bytes_after cs addr bytes ≡ bytes_after ds addr bytes
 bytes_agree cs ds addr [] h = refl

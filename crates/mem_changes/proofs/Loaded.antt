@@ -1,4 +1,4 @@
--- A memory that was loaded from parts that are accepted.
+-- A memory that was loaded from accepted parts.
 use Rattle.std.proofs.Common.{◌≡◌, ℕ, suc, ◌+◌, ◌<◌, ◌≤◌, List, [], ◌∷◌, Bool, true, false, length, map, cond, refl, arith, length-append, length-drop}
 use Rattle.std.specs.Prelude.{◌||◌, filter, All}
 use Rattle.std.specs.List.{list_any, AllByRecursion}
@@ -62,7 +62,7 @@ areas_code : (file : List ℕ) (parts : List Part) → AllByRecursion HasCode (m
 areas_code file [] = tt
 areas_code file (p ∷ parts) = (refl, areas_code file parts)
 
--- instructions are fetched from a region where they are from its part
+-- instructions are fetched from a region if they are fetched from its part
 part_area : (file : List ℕ) (p : Part) (addr : ℕ) → LiesIn file p → part_runs addr p ≡ runs_in addr (area_bounds (area_of file p))
 part_area file p addr h = rw (image_length file p h) (grind (arith, nat_tests))
 

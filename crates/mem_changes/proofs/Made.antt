@@ -1,4 +1,4 @@
--- Making the changes byte after byte, and taking them back.
+-- Making the changes byte by byte, and undoing them.
 use Rattle.std.proofs.Common.{◌≡◌, ◌≢◌, ℕ, ◌<◌, ◌≤◌, List, [], ◌∷◌, ◌++◌, Bool, true, false, Some, length, map, refl, ap, sym, ◌∙◌, arith, append_assoc}
 use Rattle.std.specs.Prelude.{if◌then◌else◌}
 use Rattle.std.specs.List.{AllByRecursion}
@@ -17,7 +17,7 @@ use Rattle.mem_changes.specs.Steps.{all_written, all_restored}
 use Rattle.mem_changes.proofs.After.{byte_after-append, byte_after-avoids, changed_here, changed_elsewhere, bytes_after-none}
 use Rattle.mem_changes.proofs.Written.{IsWritten, memory_written}
 
--- one change more
+-- one more change
 one_more : (cs : List Change) (c : Change) (k : MemoryChanges) → IsWritten c.addr (c.byte ∷ []) (record k { bytes = cs }) (record k { bytes = cs ++ c ∷ [] })
 one_more cs c k = record {
   bytes = record {
@@ -41,12 +41,12 @@ all_written-after m k cs (c ∷ ds) apart are =
     rw one (all_written-after m k (cs ++ c ∷ []) ds apart are.1 ∙ ap (λ (l : List Change). memory_after (record k { bytes = l }) m)
     (append_assoc cs (c ∷ []) ds))
 
--- nothing below an address in a list that rises from it
+-- nothing below an address in a list that ascends from it
 pub avoids : (x y : ℕ) (cs : List Change) → y ≤ x → AllByRecursion (λ d. x < d.addr) cs → AllByRecursion (λ d. d.addr ≢ y) cs
 avoids x y [] h a = tt
 avoids x y (c ∷ cs) h a = let l : x < c.addr = a.0 in (λ e. omega arith, avoids x y cs h a.1)
 
--- one change less
+-- one change fewer
 one_less : (cs : List Change) (c : Change) (k : MemoryChanges) (b : ℕ) → IsWritten c.addr (b ∷ []) (record k { bytes = c ∷ cs }) (record k { bytes = cs })
 one_less cs c k b = record {
   bytes = record {
@@ -74,7 +74,7 @@ all_restored-after m k (c ∷ cs) apart are rise =
     alone in
     rw (there, one) (all_restored-after m k cs apart are.1 rise.1)
 
--- code that is brought up to date has the changes of the bytes
+-- code that is synchronized has the changes of the bytes
 area_synced : (k : MemoryChanges) (a : Area) → HasCode a → synced_area (area_after k a) ≡ area_after (record k { code = k.bytes }) a
 area_synced k a h = go a.exec refl h where
   made : List ℕ → Area
@@ -115,7 +115,7 @@ pub break-after : (m : Memory) (k : MemoryChanges) (b : ℕ) → record (memory_
 unfolding memory_after
 break-after m k b = refl
 
--- the changes of the code, made by synchronizing it with bytes that are put back
+-- the changes of the code, made by synchronizing it with bytes that are restored afterwards
 pub code_none : (m : Memory) (k : MemoryChanges) → length k.code ≡ 0 →
     m ≡ memory_after (record { bytes = []; code = k.code; program_break = m.program_break }) m
 code_none m k e = go k.code e where
@@ -144,7 +144,7 @@ all_made m k is lists =
 
 pub ruleset making = (code_none, code_made, all_made)
 
--- taking them back
+-- undoing them
 pub code_back_none : (m : Memory) (k : MemoryChanges) → length k.code ≡ 0 →
     memory_after (record k { bytes = [] }) m ≡ memory_after (record k { bytes = []; code = [] }) m
 code_back_none m k e = go k.code e where

@@ -1,4 +1,4 @@
--- A memory has one list of changes.
+-- A memory has only one list of changes.
 use Rattle.std.proofs.Common.{◌≡◌, ◌≢◌, ◌⊎◌, inl, inr, ℕ, zero, suc, ◌+◌, ◌-◌, ◌<◌, ◌≤◌, List, [], ◌∷◌, Bool, true, false, Option, Some, None, take, drop, find, map, cond, refl, ap, sym, subst, ◌∙◌, arith}
 use Rattle.std.specs.Prelude.{◌||◌, if◌then◌else◌, IsTrue}
 use Rattle.std.specs.List.{list_any, AllByRecursion}
@@ -18,7 +18,7 @@ use Rattle.mem_changes.proofs.After.{byte_after-avoids, changed_here, changed_el
 use Rattle.mem_changes.proofs.Made.{avoids}
 use Rattle.mem_changes.proofs.Written.{all_found, found_passes, writes-lies}
 
--- the change is of a byte with this property, which was another one
+-- the change is of a byte with this property, which was different
 record Alters (P : ℕ → ℕ → Type 0) (c : Change) : Type 0 where
   pub old : ℕ
   pub was : P c.addr old
@@ -36,7 +36,7 @@ same_change : (c d : Change) → c.addr ≡ d.addr → c.byte ≡ d.byte → c �
 same_change c d e f = ap (λ (a : ℕ). let k : Change = record { addr = a; byte = c.byte } in k) e
     ∙ ap (λ (b : ℕ). let k : Change = record { addr = d.addr; byte = b } in k) f
 
--- a list that changes something is not like one that has no change there
+-- a list that changes something differs from one that has no change there
 first_differs : (P : ℕ → ℕ → Type 0) (c : Change) (cs ds : List Change) → AddressesRise (c ∷ cs) → Alters P c →
     ((y o : ℕ) → P y o → byte_after (c ∷ cs) y o ≡ byte_after ds y o) → ((o : ℕ) → byte_after ds c.addr o ≡ o) → ⊥
 first_differs P c cs ds rise alters same none = alters.differs (sym (none alters.old) ∙ sym (same c.addr alters.old alters.was)
@@ -50,7 +50,7 @@ tails_same P c d cs ds e rise climb same y o p = go (cases_eq y c.addr) where
   go (inr f) = sym (ap (byte_after cs y) (changed_elsewhere c.addr c.byte y o (λ g. f (sym g)))) ∙ same y o p
       ∙ ap (byte_after ds y) (changed_elsewhere d.addr d.byte y o (λ g. f (sym g ∙ sym e)))
 
--- rising lists of changes that do the same are the same
+-- ascending lists of changes with the same effect are the same
 same_lists : (P : ℕ → ℕ → Type 0) (cs ds : List Change) → AddressesRise cs → AddressesRise ds → AllByRecursion (Alters P) cs → AllByRecursion (Alters P) ds →
     ((y o : ℕ) → P y o → byte_after cs y o ≡ byte_after ds y o) → cs ≡ ds
 same_lists P [] [] rise climb a b same = refl
@@ -69,7 +69,7 @@ same_lists P (c ∷ cs) (d ∷ ds) rise climb a b same = go (cases_order c.addr 
       go (inr (inl h)) later = absurd (first_differs P c cs (d ∷ ds) rise a.0 same (λ o. below_head d ds c.addr o h climb))
       go (inr (inr h)) later = absurd (first_differs P d ds (c ∷ cs) climb b.0 (λ y o p. sym (same y o p)) (λ o. below_head c cs d.addr o h rise))
 
--- the byte of an index in two lists that are the same
+-- the byte at an index, for two lists with the same effect
 at_index : (cs ds : List Change) (base i : ℕ) (bytes : List ℕ) (o : ℕ) → take 1 (drop i bytes) ≡ o ∷ [] →
     bytes_after cs base bytes ≡ bytes_after ds base bytes →
     byte_after cs (base + i) o ≡ byte_after ds (base + i) o
@@ -87,7 +87,7 @@ at_index cs ds base (suc i) (b ∷ bytes) o e f =
     let start : suc base + i ≡ base + suc i = omega arith in
     subst (λ (y : ℕ). byte_after cs y o ≡ byte_after ds y o) start later
 
--- what two lists have in common they have at a region that is found
+-- functions that agree on a list of regions agree on a region that is found in it
 found_same : (f g : Area → Area) (test : Area → Bool) (areas : List Area) (a : Area) → map f areas ≡ map g areas → find test areas ≡ Some a → f a ≡ g a
 found_same f g test [] a e h = absurd (cc)
 found_same f g test (b ∷ areas) a e h = go (test b) h (λ k. found_same f g test areas a (let t : map f areas ≡ map g areas = cc in t) k) where
@@ -134,7 +134,7 @@ alters_bytes : (m : Memory) (cs : List Change) → AllByRecursion (IsChange m) c
 alters_bytes m [] h = tt
 alters_bytes m (c ∷ cs) h = (record { old = h.0.loaded; was = h.0.was; differs = h.0.differs }, alters_bytes m cs h.1)
 
--- the region of a byte that a program may write is executable where instructions are fetched at the byte
+-- the region of a byte that a program may write is executable if instructions are fetched at the byte
 other_runs : (a : Area) (areas : List Area) (y : ℕ) → AllByRecursion (IsApart a) areas → lies_in y 1 a ≡ true →
     list_any (runs_in y) (map area_bounds areas) ≡ true → ⊥
 other_runs a [] y apart lies e = absurd (cc)

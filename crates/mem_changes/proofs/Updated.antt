@@ -1,4 +1,4 @@
--- What a store and FENCE.I do to the changes.
+-- How a store and FENCE.I affect the changes.
 use Rattle.std.proofs.Common.{◌≡◌, ◌≢◌, inl, inr, ℕ, zero, suc, ◌+◌, ◌-◌, ◌<◌, ◌≤◌, ◌%◌, ◌^◌, List, [], ◌∷◌, ◌++◌, Bool, true, false, Option, Some, None, IsTrue, length, take, drop, find, map, cond, refl, ap, sym, subst, ◌∙◌, arith}
 use Rattle.std.specs.Prelude.{◌==◌, ◌||◌, if◌then◌else◌, filter, nat_lt, nat_le}
 use Rattle.std.specs.List.{list_any, AllByRecursion}
@@ -23,7 +23,7 @@ use Rattle.mem_changes.proofs.Written.{memory_written, writes_after, all_found, 
 use Rattle.mem_changes.proofs.Made.{synced-after, break-after}
 use Rattle.mem_changes.proofs.Steps.{same_parts}
 
--- what holds of each change, in a list of several parts and in one that is filtered
+-- what holds for each change, in a list of several parts and in a filtered list
 all_append : (P : Change → Type 0) (cs ds : List Change) → AllByRecursion P cs → AllByRecursion P ds → AllByRecursion P (cs ++ ds)
 all_append P [] ds a b = b
 all_append P (c ∷ cs) ds a b = (a.0, all_append P cs ds a.1 b)
@@ -63,7 +63,7 @@ ascend_append x (c ∷ cs) ds a b l u =
       ascend_append x cs ds a.1 b l.1 u,
     )
 
--- the differences of bytes: where they are, and what they make of the bytes that were loaded
+-- the differences of bytes: where they are, and how they change the bytes that were loaded
 difference_at : (P : Change → Type 0) (addr byte old : ℕ) → ((c : Change) → c.addr ≡ addr → c.byte ≡ byte → byte ≢ old → P c) →
     AllByRecursion P (difference addr byte old)
 difference_at P addr byte old h = go (byte == old) refl where
@@ -270,7 +270,7 @@ rewritten_lists m k x n w olds apart is e f found =
       break_to = is.break_to;
     }
 
--- where a store may be
+-- an aligned store ends within the addresses of 32 bits
 pub aligned_end : (x n : ℕ) → IsWidth n → x % n ≡ 0 → x < 2 ^ 32 → x + n ≤ 2 ^ 32
 aligned_end x n (inl e) f h = omega arith
 aligned_end x n (inr (inl e)) f h = let g : x % 2 ≡ 0 = rw (← e) f in omega arith
@@ -311,7 +311,7 @@ stored_made m k x n number old is w e found = go (is_aligned x n) refl where
 
 pub ruleset storing = (aligned_end, stored_misaligned, stored_none, stored_lists, stored_made)
 
--- FENCE.I: of the changes of the bytes those that are executable are those of the code
+-- FENCE.I: those changes of the bytes that are executable are the changes of the code
 any_left : (s t : Bool) → s ≡ true → (s || t) ≡ true
 any_left true t e = refl
 any_left false t e = absurd (cc)

@@ -1,4 +1,4 @@
--- A write into a memory with changes made is the memory with other changes made.
+-- A write into a memory with changes made gives the memory with other changes made.
 use Rattle.std.proofs.Common.{◌≡◌, ◌⊎◌, inl, inr, ℕ, ◌+◌, ◌-◌, ◌<◌, ◌≤◌, List, [], ◌∷◌, ◌++◌, Bool, true, false, Option, Some, None, IsTrue, length, take, drop, find, map, cond, refl, ap, sym, subst, ◌∙◌, arith, append_assoc, length-append, length-drop}
 use Rattle.std.specs.List.{AllByRecursion}
 use Rattle.std.specs.Option.{option_map}
@@ -16,7 +16,7 @@ use Rattle.mem_changes.specs.Applied.{byte_after, bytes_after, area_after, memor
 use Rattle.mem_changes.specs.Images.{IsApart, ShareNoByte}
 use Rattle.mem_changes.proofs.After.{length-bytes_after, bytes_after-append, bytes_agree}
 
--- outside a range two lists of changes do the same
+-- outside a range two lists of changes have the same effect
 pub record SameOutside (x n : ℕ) (cs ds : List Change) : Type 0 where
   pub below : (y o : ℕ) → y < x → byte_after cs y o ≡ byte_after ds y o
   pub above : (y o : ℕ) → x + n ≤ y → byte_after cs y o ≡ byte_after ds y o
@@ -60,7 +60,7 @@ written_bytes cs ds base at n bytes w within e same f =
     (subst (λ (i : ℕ). overwritten (bytes_after cs base ((p ++ m) ++ q)) i w ≡ bytes_after ds base ((p ++ m) ++ q)) front
     (pieces cs ds base p m q w middle same' f'))
 
--- the changes of two memories, of which one is that of a write
+-- the changes of two memories, the second of which is after a write
 pub record IsWritten (x : ℕ) (w : List ℕ) (j k : MemoryChanges) : Type 0 where
   pub bytes : SameOutside x (length w) j.bytes k.bytes
   pub code : j.code ≡ k.code
@@ -103,7 +103,7 @@ area_away j k x w a is away =
       sides (inr b) (inr s) = is.bytes.above y o s
       sides (inr b) (inl s) = absurd (away y b s (in_area a y h l))
 
--- what holds of each region holds of one that is found
+-- what holds for each region holds for one that is found
 pub all_found : (P : Area → Type 0) (test : Area → Bool) (areas : List Area) (f : Area) → AllByRecursion P areas → find test areas ≡ Some f → P f
 all_found P test [] f h e = absurd (cc)
 all_found P test (a ∷ areas) f h e = go (test a) e (all_found P test areas f h.1) where
@@ -133,7 +133,7 @@ areas_away j k x w a (b ∷ areas) is lies apart =
 pub writes_after : (k : MemoryChanges) (x n : ℕ) (a : Area) → writes_in x n (area_after k a) ≡ writes_in x n a
 writes_after k x n a = rw (length-bytes_after k.bytes a.base a.bytes) refl
 
--- the regions, of which the one that has the range is written
+-- the regions; the one that has the range is written
 pub areas_written : (j k : MemoryChanges) (x : ℕ) (w : List ℕ) (areas : List Area) (old : List ℕ) → ShareNoByte areas → IsWritten x w j k → 0 < length w →
     option_map (bytes_in x (length w)) (find (writes_in x (length w)) areas) ≡ Some old → bytes_after k.bytes x old ≡ w →
     first_changed (writes_in x (length w)) (area_with x w) (map (area_after j) areas) ≡ map (area_after k) areas
@@ -166,7 +166,7 @@ areas_written j k x w (a ∷ areas) old apart is some e f =
         let tail : first_changed (writes_in x (length w)) (area_with x w) (map (area_after j) areas) ≡ map (area_after k) areas = later e f in
         cc
 
--- a write into the changed memory is the memory changed otherwise
+-- a write into the changed memory gives the memory with other changes
 pub memory_written : (m : Memory) (j k : MemoryChanges) (x n : ℕ) (w old : List ℕ) → ShareNoByte m.areas → IsWritten x w j k → length w ≡ n → 0 < n →
     writable_of m x n ≡ Some old → bytes_after k.bytes x old ≡ w → memory_with (memory_after j m) x n w ≡ memory_after k m
 unfolding memory_with memory_after writable_of

@@ -1,4 +1,5 @@
--- Which changes stand for a memory: each changes something, and they are in order. So a memory has one list of them.
+-- Which changes describe a memory: each changes something, and they are in order. So a memory has only one list of
+-- them.
 use Rattle.std.specs.Prelude.{◌≡◌, ◌≢◌, ℕ, ◌<◌, ◌≤◌, List, [], ◌∷◌, Bool, ◌&&◌, Some, IsTrue}
 use Rattle.std.specs.List.{list_any, AllByRecursion}
 use Rattle.mem_regions.specs.Memory.{Memory}
@@ -8,13 +9,13 @@ use Rattle.mem_changes.specs.declared.changes.Change.{Change}
 use Rattle.mem_changes.specs.MemoryChanges.{MemoryChanges}
 use Rattle.mem_changes.specs.Applied.{memory_after}
 
--- the change is of a byte that a program may write, and that was another one
+-- the change is of a byte that a program may write, and that was different
 pub record IsChange (m : Memory) (c : Change) : Type 0 where
   pub loaded : ℕ
   pub was : writable_of m c.addr 1 ≡ Some (loaded ∷ [])
   pub differs : loaded ≢ c.byte
 
--- the addresses rise
+-- the addresses ascend
 abbrev pub AddressesRise : List Change → Type 0
 AddressesRise [] = Unit {0}
 AddressesRise (c ∷ changes) = AllByRecursion (λ d. c.addr < d.addr) changes × AddressesRise changes

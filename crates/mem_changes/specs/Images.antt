@@ -1,4 +1,4 @@
--- What a memory is like when it has just been loaded.
+-- The properties of a memory that has just been loaded.
 use Rattle.std.specs.Prelude.{◌≡◌, ℕ, ◌+◌, List, [], ◌∷◌, Bool, ◌&&◌, nat_le, nat_lt, if◌then◌else◌, Option, Some, None, IsTrue}
 use Rattle.std.specs.List.{list_any, AllByRecursion}
 use Rattle.mem_regions.specs.Area.{Area}
@@ -16,7 +16,7 @@ abbrev pub ShareNoByte : List Area → Type 0
 ShareNoByte [] = Unit {0}
 ShareNoByte (a ∷ areas) = AllByRecursion (IsApart a) areas × ShareNoByte areas
 
--- the code is a copy of the bytes, where instructions are fetched from the region
+-- the code is a copy of the bytes, if instructions are fetched from the region
 abbrev pub HasCode : Area → Type 0
 HasCode a = a.code ≡ (if a.exec then a.bytes else [])
 
@@ -30,7 +30,7 @@ pub record IsAsLoaded (m : Memory) : Type 0 where
 abbrev pub part_runs : ℕ → Part → Bool
 part_runs addr p = p.exec && (nat_le p.base addr && nat_lt addr (p.base + p.size))
 
--- they are fetched where they are in the memory
+-- the parts say where instructions are fetched in the memory
 abbrev pub TellsRunning : List Part → Memory → Type 0
 TellsRunning parts m = (addr : ℕ) → list_any (part_runs addr) parts ≡ runs_at (bounds_of m) addr
 
@@ -40,6 +40,6 @@ first_byte None = 0
 first_byte (Some []) = 0
 first_byte (Some (byte ∷ bytes)) = byte
 
--- the byte at the address, where a program may write it
+-- the byte at the address, if a program may write it
 unfoldable pub byte_at : Memory → ℕ → ℕ
 byte_at m addr = first_byte (writable_of m addr 1)

@@ -66,7 +66,7 @@ impl Changes {
         }
     }
 
-    /// The same changes again; or an error where there is no memory for them.
+    /// A copy of the changes; or an error if there is not enough memory for them.
     pub fn copy(&self) -> Result<Changes, AllocError>
         ensures { IfOk result (λ k. k ≡ self.now) }
     {

@@ -48,7 +48,7 @@ fn any_runs(parts: &[Part], addr: u32) -> bool
 }
 
 impl Image {
-    /// The memory that these parts of the file make, as [`Regions::load`] says.
+    /// The memory that is made from these parts of the file, as [`Regions::load`] says.
     #[tactic(auto, using(crate::proofs::Loaded::loading))]
     pub fn load(alloc: Global, file: &[u8], parts: &[Part]) -> Result<Image, LoadErr>
         requires { All (LiesIn file.now) parts.now }
@@ -79,7 +79,7 @@ impl Image {
         any_runs(&self.parts, addr)
     }
 
-    /// The byte at the address where a program may write it; 0 at any other address.
+    /// The byte at the address if a program may write it; 0 at any other address.
     #[tactic(auto, unfolding(crate::specs::Images::byte_at))]
     pub fn byte(&self, addr: u32) -> u8
         ensures { result ≡ byte_at self.now addr }
@@ -90,7 +90,7 @@ impl Image {
         }
     }
 
-    /// The number of 1, 2 or 4 bytes at the address, or `None` where a program may not write them.
+    /// The number of 1, 2 or 4 bytes at the address, or `None` if a program may not write them.
     pub fn number(&self, addr: u32, width: u32) -> Option<u32>
         requires { IsWidth width }
         ensures number { IfSome result (λ number. writable_of self.now addr width ≡ Some (le_bytes width number)) }

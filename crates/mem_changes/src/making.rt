@@ -1,4 +1,4 @@
-//! Making the changes in a memory, and taking them back.
+//! Making the changes in a memory, and undoing them.
 
 ghost use Rattle.std.specs.Prelude.{◌≡◌, ◌∷◌, []};
 ghost use Rattle.mem_regions.specs.Writing.{memory_with};
@@ -10,7 +10,7 @@ use crate::changes::{Change, Changes};
 use crate::image::Image;
 use mem_regions::Regions;
 
-/// Writes the byte, where it may be written.
+/// Writes the byte, if it may be written.
 #[inline(always)]
 fn write(mem: &mut Regions, addr: u32, byte: u8)
     ensures { mem.new ≡ memory_with mem.old addr 1 (byte ∷ []) }
@@ -39,7 +39,7 @@ fn restore_all(mem: &mut Regions, image: &Image, changes: &[Change])
 }
 
 impl Changes {
-    /// Makes the changes of the code. Code is set by synchronizing it with the bytes, which are put back after it.
+    /// Makes the changes of the code. Code is set by synchronizing it with the bytes, which are restored afterwards.
     #[tactic(auto, using(crate::proofs::Made::making))]
     fn apply_code(&self, image: &Image, mem: &mut Regions)
         requires lists { AreChanges image.now self.now }
@@ -68,7 +68,7 @@ impl Changes {
         mem.set_brk(self.program_break);
     }
 
-    /// Takes back the changes of the code, where the bytes are those that were loaded.
+    /// Undoes the changes of the code, when the bytes are those that were loaded.
     #[tactic(auto, using(crate::proofs::Made::taking))]
     fn take_code_back(&self, image: &Image, mem: &mut Regions)
         requires { mem.old ≡ memory_after (record self.now { bytes = [] }) image.now }
@@ -80,7 +80,7 @@ impl Changes {
         }
     }
 
-    /// Takes the changes back: the memory is again as it was loaded.
+    /// Undoes the changes: the memory is again as it was loaded.
     #[tactic(auto, using(crate::proofs::Made::taking))]
     pub fn take_back(&self, image: &Image, mem: &mut Regions)
         requires lists { AreChanges image.now self.now }
@@ -93,7 +93,7 @@ impl Changes {
         mem.set_brk(image.memory().brk());
     }
 
-    /// Turns a memory with these changes into the one with others.
+    /// Turns a memory with these changes into one with others.
     pub fn turn_into(&self, other: &Changes, image: &Image, mem: &mut Regions)
         requires lists { AreChanges image.now self.now }
         requires other_lists { AreChanges image.now other.now }

@@ -1,4 +1,4 @@
-//! What a store, FENCE.I and a moved break do to the changes.
+//! How a store, FENCE.I and a moved break affect the changes.
 
 ghost use Rattle.std.specs.Prelude.{◌≡◌, ◌+◌, ◌≤◌, ◌^◌, ◌++◌, IfOk, filter};
 ghost use Rattle.mem_regions.specs.Access.{IsWidth, bounds_of};
@@ -37,7 +37,7 @@ fn push_from(list: &mut Vec<Change>, changes: &[Change], addr: u64) -> Result<()
     Ok(())
 }
 
-/// Adds the byte as a change, where it is not the one that was loaded.
+/// Adds the byte as a change, if it is not the one that was loaded.
 fn push_difference(
     list: &mut Vec<Change>,
     addr: u32,
@@ -52,7 +52,7 @@ fn push_difference(
     Ok(())
 }
 
-/// Adds the low bytes of the number as changes, where they are not those of the number that was loaded.
+/// Adds the low bytes of the number as changes, where they differ from those of the number that was loaded.
 #[tactic(auto, using(crate::proofs::Steps::difference_steps))]
 fn push_differences(
     list: &mut Vec<Change>,
@@ -74,7 +74,7 @@ fn push_differences(
     Ok(())
 }
 
-/// The changes once the low bytes of the number stand from the address on, where another number was loaded.
+/// The changes after the low bytes of the number are written from the address on, where another number was loaded.
 fn rewrite(
     alloc: Global,
     changes: &[Change],
@@ -107,7 +107,7 @@ fn running(alloc: Global, image: &Image, changes: &[Change]) -> Result<Vec<Chang
 }
 
 impl Changes {
-    /// Takes in a store of 1, 2 or 4 bytes; one that the memory does not permit changes nothing.
+    /// Records a store of 1, 2 or 4 bytes; one that the memory does not permit changes nothing.
     #[tactic(auto, using(crate::proofs::Updated::storing))]
     pub fn store(
         &mut self,
@@ -133,7 +133,7 @@ impl Changes {
         Ok(())
     }
 
-    /// Takes in FENCE.I: the code is again that of the bytes.
+    /// Records FENCE.I: the code is again that of the bytes.
     #[tactic(auto, using(crate::proofs::Updated::syncing))]
     pub fn sync(&mut self, alloc: Global, image: &Image) -> Result<(), AllocError>
         requires lists { AreChanges image.now self.old }
@@ -145,7 +145,7 @@ impl Changes {
         Ok(())
     }
 
-    /// Takes in a moved break.
+    /// Records a moved break.
     #[tactic(auto, using(crate::proofs::Updated::breaking))]
     pub fn set_brk(&mut self, image: &Image, addr: u32)
         requires lists { AreChanges image.now self.old }

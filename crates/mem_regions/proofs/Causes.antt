@@ -1,4 +1,4 @@
--- The tests of the parts find what they are named for.
+-- The tests of the parts find what their names say.
 use Rattle.std.proofs.Common.{◌≡◌, ℕ, ◌+◌, ◌-◌, ◌<◌, ◌≤◌, ◌^◌, List, [], ◌∷◌, ◌++◌, Bool, true, false, Option, Some, None, Err, length, get_or, cond, min, max, refl, subst, arith, add-zero, append_assoc, length-append, ◌⊎◌, inl, inr}
 use Rattle.std.specs.Prelude.{position, nat_lt}
 use Rattle.std.proofs.lemmas.List.Quantifiers.{position-Some}
@@ -14,19 +14,19 @@ use Rattle.mem_regions.proofs.Finding.{passes_none}
 use Rattle.mem_regions.proofs.Parts.{first_passes, next_passes, no_index}
 use Rattle.mem_regions.specs.Causes.{IsAddressOf, Share, Wraps, IsFirstToWrap, ShareAt, ApartAt, IsFirstOverlap, IsLoadCause, AreAccepted}
 
--- parts that overlap share an address: the greater base is one
+-- parts that overlap share an address: the larger base is one
 pub overlaps-share : (p q : Part) → overlaps p q ≡ true → Share p q
 overlaps-share p q e = (max p.base q.base, (grind (arith, nat_tests), grind (arith, nat_tests)), (grind (arith, nat_tests), grind (arith, nat_tests)))
 
--- and where they do not overlap they share none
+-- and if they do not overlap, they share none
 pub apart-share : (p q : Part) → overlaps p q ≡ false → ¬ Share p q
 apart-share p q e = λ s. let a = s.0 in let inp : IsAddressOf p s.0 = s.1 in let inq : IsAddressOf q s.0 = s.2 in grind (arith, nat_tests)
 
--- a part that is tested to wrap around wraps around
+-- a part that wraps around according to the test wraps around
 pub wraps-Wraps : (p : Part) → wraps p ≡ true → Wraps p
 wraps-Wraps p e = grind (arith, nat_tests)
 
--- a part that is tested not to does not
+-- a part that does not according to the test does not
 pub wraps-in : (p : Part) → wraps p ≡ false → ¬ Wraps p
 wraps-in p e = λ h. grind (arith, nat_tests)
 
@@ -54,7 +54,7 @@ record IsOverlapFrom (whole : List Part) (from i j : ℕ) : Type 0 where
   least_second : (k n : ℕ) → k < n → from ≤ n → n < j → ApartAt whole k n
   least_first : (k : ℕ) → k < i → ApartAt whole k j
 
--- what is before a part, and the part itself, in the whole list
+-- the parts before a part, and the part itself, in the whole list
 at_part : (before : List Part) (p : Part) (ps : List Part) (n : ℕ) (d : Part) → n ≡ length before → get_or (before ++ p ∷ ps) n d ≡ p
 at_part before p ps n d e = rw (e, get_or-append_seam) refl
 
@@ -79,7 +79,7 @@ apart_here before p ps k e below d d' =
     rw (get_or-append_seam before p ps d, get_or-append before (p ∷ ps) d' k below) (apart-share (get_or before k d') p
     (passes_none (λ b. overlaps b p) before e k d' below))
 
--- the overlap of a part is the first from that part on
+-- the overlap found for a part is the first from that part on
 found_here : (before : List Part) (p : Part) (ps : List Part) (k : ℕ) → position (λ b. overlaps b p) before ≡ Some k →
     IsOverlapFrom (before ++ p ∷ ps) (length before) k (length before)
 found_here before p ps k e = record {
@@ -90,14 +90,14 @@ found_here before p ps k e = record {
   least_first = λ n below. apart_first before p ps k n e below;
 }
 
--- parts apart, by whether the second is the part itself or comes after it
+-- parts that are apart, by whether the second is the part itself or comes after it
 after_second : (before : List Part) (p : Part) (ps : List Part) (i j : ℕ) → position (λ b. overlaps b p) before ≡ None →
     IsOverlapFrom (before ++ p ∷ ps) (length before + 1) i j → (k n : ℕ) → k < n → length before ≤ n → n < j → (n ≡ length before) ⊎ (length before + 1 ≤ n) →
     ApartAt (before ++ p ∷ ps) k n
 after_second before p ps i j e r k n below from to (inl here) = rw here (apart_here before p ps k e (omega arith))
 after_second before p ps i j e r k n below from to (inr after) = r.least_second k n below after to
 
--- where a part overlaps none before it, the first overlap after it is the first from it on
+-- if a part overlaps none before it, the first overlap after it is the first from it on
 found_after : (before : List Part) (p : Part) (ps : List Part) (i j : ℕ) → position (λ b. overlaps b p) before ≡ None →
     IsOverlapFrom (before ++ p ∷ ps) (length before + 1) i j → IsOverlapFrom (before ++ p ∷ ps) (length before) i j
 found_after before p ps i j e r = record {
@@ -108,11 +108,11 @@ found_after before p ps i j e r = record {
   least_first = r.least_first;
 }
 
--- moving a part over to those before it leaves the list unchanged
+-- moving a part to those before it leaves the list unchanged
 more_before : (before : List Part) (p : Part) (ps : List Part) → (before ++ p ∷ []) ++ ps ≡ before ++ p ∷ ps
 more_before before p ps = append_assoc before (p ∷ []) ps
 
--- and makes them one more
+-- and their number grows by one
 one_more : (before : List Part) (p : Part) → length (before ++ p ∷ []) ≡ length before + 1
 one_more before p = length-append before (p ∷ [])
 
@@ -126,7 +126,7 @@ found_step before p ps i j (Some k) after e h later =
     subst (λ (n : ℕ). IsOverlapFrom (before ++ p ∷ ps) (length before) i n) second
     (subst (λ (n : ℕ). IsOverlapFrom (before ++ p ∷ ps) (length before) n (length before)) first (found_here before p ps k e))
 
--- the overlap that the test finds is the first from the index on where it begins
+-- the overlap that the test finds is the first from the index at which the test begins
 found_from : (whole before ps : List Part) (i j : ℕ) → before ++ ps ≡ whole → overlap_from before ps ≡ Some (Overlap i j) →
     IsOverlapFrom whole (length before) i j
 found_from whole before [] i j e h = cc
@@ -158,13 +158,13 @@ after_apart : (before : List Part) (p : Part) (ps : List Part) → position (λ 
 after_apart before p ps e later k n below to (inl here) = rw here (apart_here before p ps k e (omega arith))
 after_apart before p ps e later k n below to (inr after) = later k n below after to
 
--- a part and those after it are apart from all before them where the test finds no overlap
+-- a part and those after it are apart from all before them if the test finds no overlap
 apart_step : (before : List Part) (p : Part) (ps : List Part) (o : Option ℕ) (after : Option LoadErr) → position (λ b. overlaps b p) before ≡ o →
     overlap_or o (length before) after ≡ None → (after ≡ None → ApartFrom (before ++ p ∷ ps) (length before + 1)) → ApartFrom (before ++ p ∷ ps) (length before)
 apart_step before p ps None after e h later = λ k n below from to. after_apart before p ps e (later h) k n below to (here_or_after (length before) n from)
 apart_step before p ps (Some k) after e h later = cc
 
--- the same for all parts from the index on where the test begins
+-- the same for all parts from the index at which the test begins
 apart_from : (whole before ps : List Part) → before ++ ps ≡ whole → overlap_from before ps ≡ None → ApartFrom whole (length before)
 apart_from whole before [] e h = λ k n below from to. let same : length before ≡ length whole = rw (← e, length-append, add-zero) refl in absurd (omega arith)
 apart_from whole before (p ∷ ps) e h =
@@ -173,17 +173,17 @@ apart_from whole before (p ∷ ps) e h =
     (λ g. subst (λ (n : ℕ). ApartFrom (before ++ p ∷ ps) n) (one_more before p) (apart_from (before ++ p ∷ ps) (before ++ p ∷ []) ps
     (more_before before p ps) g)))
 
--- where the test finds no overlap, no two parts share an address
+-- if the test finds no overlap, no two parts share an address
 pub first_overlap-none : (parts : List Part) → first_overlap parts ≡ None → (k n : ℕ) → k < n → n < length parts → ApartAt parts k n
 unfolding first_overlap
 first_overlap-none parts e = λ k n below to. apart_from parts [] parts refl e k n below (omega arith) to
 
--- what a refusal, if there is one, says of the parts
+-- what a refusal, if there is one, says about the parts
 Says : List Part → Option LoadErr → Type 0
 Says parts None = Unit
 Says parts (Some e) = IsLoadCause parts e
 
--- where two tests say the truth, so does the first of them that fails
+-- if two tests say the truth, so does the first of them that fails
 says-or_else : (parts : List Part) (a b : Option LoadErr) → Says parts a → Says parts b → Says parts (option_or a b)
 unfolding Says
 says-or_else parts None b s t = t
@@ -218,7 +218,7 @@ TellsOverlap (Some NoMemory) = ⊥
 TellsOverlap (Some (Overlap i j)) = Unit
 TellsOverlap None = Unit
 
--- an overlap, or what the later parts give
+-- an overlap, or the answer for the later parts
 tells-overlap_or : (o : Option ℕ) (j : ℕ) (after : Option LoadErr) → TellsOverlap after → TellsOverlap (overlap_or o j after)
 unfolding TellsOverlap
 tells-overlap_or None j after t = t
@@ -231,7 +231,7 @@ tells-overlap_from before [] = tt
 tells-overlap_from before (p ∷ ps) = tells-overlap_or (position (λ b. overlaps b p) before) (length before) (overlap_from (before ++ p ∷ []) ps)
     (tells-overlap_from (before ++ p ∷ []) ps)
 
--- what the test for overlaps gives is true
+-- what the test for overlaps says is true
 says-overlap_told : (parts : List Part) (o : Option LoadErr) → TellsOverlap o → first_overlap parts ≡ o → Says parts o
 unfolding Says TellsOverlap
 says-overlap_told parts None t e = tt
@@ -262,17 +262,17 @@ says_where parts (Some x) e s h = let same : x ≡ e = cc in subst (λ (y : Load
 pub refused-cause : (parts : List Part) (e : LoadErr) → Err e ≡ load_answer (refusal parts) → IsLoadCause parts e
 refused-cause parts e h = says_where parts (refusal parts) e (says-refusal parts) h
 
--- where there are not too many there are at most 16
+-- if there are not too many, there are at most 16
 few_where : (t : Bool) (n : ℕ) (e : LoadErr) → nat_lt 16 n ≡ t → cond t (Some e) None ≡ None → n ≤ 16
 few_where true n e h k = cc
 few_where false n e h k = grind (arith, nat_tests)
 
--- where they are not too large they are at most as large as allowed
+-- if they are not too large, they are at most as large as allowed
 small_where : (t : Bool) (n : ℕ) (e : LoadErr) → nat_lt 67108864 n ≡ t → cond t (Some e) None ≡ None → n ≤ 67108864
 small_where true n e h k = cc
 small_where false n e h k = grind (arith, nat_tests)
 
--- parts that pass all tests are what they are tested for
+-- parts that pass all tests have the properties tested
 pub accepted-parts : (parts : List Part) → refusal parts ≡ None → AreAccepted parts
 unfolding refusal too_many first_wrapping too_large
 accepted-parts parts e = record {

@@ -19,7 +19,7 @@ find-passes p (y ∷ ys) x e = passes_step p y x (find p ys) (p y) refl e (find-
 
 pub ruleset finding = (find-passes)
 
--- some image passes a test where for some element the test of its image passes
+-- some image passes a test if the test of the image passes for some element
 pub list_any-map : {A B : Type 0} (p : B → Bool) (f : A → B) (xs : List A) → list_any p (map f xs) ≡ list_any (λ x. p (f x)) xs
 list_any-map p f [] = refl
 list_any-map p f (x ∷ xs) = rw (list_any-map p f xs) refl
@@ -41,10 +41,10 @@ index_step false n m = shifted _ _ n (grind (arith, nat_tests))
 pub position-cons : {A : Type 0} (p : A → Bool) (x : A) (xs : List A) → position p (x ∷ xs) ≡ cond (p x) (Some 0) (option_map (λ i. suc i) (position p xs))
 position-cons p x xs = index_step (p x) (position_or_len p xs) (length xs)
 
--- where there is no index, as many elements fail as there are
+-- if there is no index, as many elements fail as there are
 none_before : (n m : ℕ) → cond (nat_lt n m) (Some n) None ≡ None → m ≤ n
 none_before n m e = grind (arith, nat_tests)
 
--- where there is no index of an element that passes, each fails
+-- if there is no index of an element that passes, each fails
 pub passes_none : {A : Type 0} (p : A → Bool) (xs : List A) → position p xs ≡ None → (k : ℕ) (d : A) → k < length xs → p (get_or xs k d) ≡ false
 passes_none p xs e k d within = let far = none_before (position_or_len p xs) (length xs) e in fails_before_first p xs k d (omega arith)

@@ -1,4 +1,4 @@
--- What `part_mut` learns from its test, and how it is borrowed for the call that makes the test.
+-- What `part_mut` learns from its test, and how the memory is borrowed for the call that makes the test.
 use Rattle.std.proofs.Common.{◌≡◌, ℕ, List, [], ◌∷◌, Bool, true, false, Option, Some, None, not, T, IsTrue, refl, sym, ◌∙◌}
 use Rattle.std.specs.Prelude.{position}
 use seplogic.Ra.Ura.{Ura}
@@ -36,34 +36,34 @@ can_of false c e h = absurd h
 pub can : (m : Memory) (at len : ℕ) (t : Bool) → t ≡ can_write m at len → T (not (not t)) → IsTrue (can_write m at len)
 can m at len t e h = can_of t (can_write m at len) e h
 
--- where nothing can be written there is no index, and no bytes at it
+-- if nothing can be written, there is no index, and there are no bytes at it
 nothing_lent : (m : Memory) (at len : ℕ) (place : Option ℕ) → place ≡ position (writes_in at len) m.areas → can_write m at len ≡ false →
     writable_of m at len ≡ None
 unfolding can_write
 nothing_lent m at len None e h = writable_of-none m at len e
 nothing_lent m at len (Some i) e h = let on = place_permits m at len i e in cc
 
--- where the test fails there are no bytes to be lent for writing
+-- if the test fails, there are no bytes to be borrowed for writing
 pub cannot_write : (m : Memory) (at len : ℕ) (t : Bool) → t ≡ can_write m at len → t ≡ false → writable_of m at len ≡ None
 cannot_write m at len t e h = nothing_lent m at len (position (writes_in at len) m.areas) refl (sym e ∙ h)
 
 module _ {M : Type 1} {𝓤 : Ura M} (𝓛 : Logic 𝓤) (κ : Lft) (q : Share) (b o : ℕ) (γ : GName) (m : Memory) where
   open 𝓛 use {H, A}
 
-  -- the regions, lent to the holder
+  -- the regions, borrowed by the holder
   abbrev pub Own : Fml
   Own = (MutRef (named 0) κ R).own_val (record { ref_ptr = (b, o); ghost_name = γ; now = m }) (vptr b o ∷ [])
 
-  -- the regions, lent as `&` for α
+  -- the regions, borrowed as `&` for α
   abbrev pub Shown : ℕ → Fml
   Shown α = (ShrRef (named 0) (α ∷ []) R).own_val (record { ref_ptr = (b, o); now = m }) (vptr b o ∷ [])
 
-  -- what the holder keeps while the regions are lent as `&` for α
+  -- what the holder keeps while the regions are borrowed as `&` for α
   abbrev pub Kept : ℕ → Fml
   Kept α = fsep (flent (α ∷ []) (part_at R full_share m b o)) (fsep (fobor κ q (Body (mem R) b o γ))
       (fsep (fobs γ (R.coded.code m)) (fauth γ (R.coded.code m))))
 
-  -- they are lent as `&` ..
+  -- they are borrowed as `&` ..
   pub shows_out : (α : ℕ) → ent 𝓤 (sep 𝓤 (sem 𝓛 Own) (sep 𝓤 (A.lft κ q) (A.lft (α ∷ []) full_share)))
       (H.⇛ (sep 𝓤 (sem 𝓛 (Shown α)) (sep 𝓤 (A.lft (α ∷ []) full_share) (sem 𝓛 (Kept α)))))
   shows_out α = qed 𝓛 (‵ Own ∷ ‵ (flft κ q) ∷ ‵ (flft (α ∷ []) full_share) ∷ []) ∵ updating ! $ fsplit3 ! $ feq_l ! (λ _. open_ref ! tt (mem R) $

@@ -1,4 +1,4 @@
--- The index of the first element that passes a test, and what it says of the list.
+-- The index of the first element that passes a test, and what it says about the list.
 use Rattle.std.proofs.Common.{◌≡◌, ◌∙◌, ℕ, ◌<◌, suc, List, [], ◌∷◌, Bool, true, false, Option, Some, None, length, find, slice_get, slice_set, unwrap_or, refl, ap, subst, cond, arith}
 use Rattle.std.specs.Prelude.{position}
 use Rattle.std.specs.List.{list_any}
@@ -36,14 +36,14 @@ place_after p x xs i d e r =
           λ f. rw e (ap (λ ys. x ∷ ys) (r.changed f));
     }
 
--- by whether the first element passes
+-- the cases where the first element passes, or fails
 place_step : {A : Type 0} (p : A → Bool) (x : A) (xs : List A) (i : ℕ) (d : A) (b : Bool) (rest : Option ℕ) → p x ≡ b →
     Some i ≡ cond b (Some 0) (option_map (λ n. suc n) rest) → ((j : ℕ) → Some j ≡ rest → IsPlace p xs j d) → IsPlace p (x ∷ xs) i d
 place_step p x xs i d true rest e h k = let same : 0 ≡ i = cc in subst (λ (n : ℕ). IsPlace p (x ∷ xs) n d) same (place_here p x xs d e)
 place_step p x xs i d false None e h k = cc
 place_step p x xs i d false (Some j) e h k = let same : suc j ≡ i = cc in subst (λ (n : ℕ). IsPlace p (x ∷ xs) n d) same (place_after p x xs j d e (k j refl))
 
--- what the index of the first that passes says
+-- what the index of the first element that passes says
 pub place_of : {A : Type 0} (p : A → Bool) (xs : List A) (i : ℕ) (d : A) → Some i ≡ position p xs → IsPlace p xs i d
 place_of p [] i d h = cc
 place_of p (x ∷ xs) i d h = place_step p x xs i d (p x) (position p xs) refl (h ∙ position-cons p x xs) (λ j. place_of p xs j d)

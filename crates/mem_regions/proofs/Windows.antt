@@ -1,4 +1,4 @@
--- A window: the region that is looked at first is the first that an access in it lies in.
+-- A window: the region that is tried first is the first region that contains an access in the window.
 use Rattle.std.proofs.Common.{◌≡◌, ◌∙◌, ℕ, ◌+◌, ◌<◌, ◌≤◌, ◌^◌, ◌%◌, suc, List, [], ◌∷◌, Bool, true, false, Option, Some, Ok, IsTrue, length, map, take, get_or, refl, ap, sym, subst, cond, arith}
 use Rattle.std.specs.Prelude.{position, nat_lt}
 use Rattle.std.specs.List.{list_all, position_or_len}
@@ -40,12 +40,12 @@ position-is p xs i d below passes fails =
 width-some : (width : ℕ) → IsWidth width → 0 < width
 width-some width h = grind arith
 
--- what lies in the window lies in a region that shares no address with another, and not in the other
+-- what is in the window is in a region that shares no address with another, and not in the other
 apart-fails : (addr len : ℕ) (w : Window) (a : Area) (b : Bounds) → 0 < len → IsTrue (lies_within addr len w) → b.base ≡ w.base → b.size ≡ w.size →
     are_apart (area_bounds a) b ≡ true → lies_in addr len a ≡ false
 apart-fails addr len w a b some within base size apart = grind (arith, nat_tests)
 
--- what lies in the window lies in its region, and may be written where that may be written
+-- what is in the window is in its region, and may be written if the region may be
 window-holds : (addr len : ℕ) (w : Window) (a : Area) → IsTrue (lies_within addr len w) → w.base ≡ a.base → w.size ≡ length a.bytes → lies_in addr len a ≡ true
 window-holds addr len w a within b s = grind (arith, nat_tests)
 
@@ -53,7 +53,7 @@ window-permitted : (addr len : ℕ) (w : Window) (a : Area) → IsTrue (lies_wit
     w.size ≡ length a.bytes → writes_in addr len a ≡ true
 window-permitted addr len w a within writes b s = let h = window-holds addr len w a within b s in rw (h, writes) refl
 
--- what does not lie in a region may not be written there
+-- a range that is not in a region may not be written there
 fails-write : (addr len : ℕ) (a : Area) → lies_in addr len a ≡ false → writes_in addr len a ≡ false
 fails-write addr len a h = rw h refl
 
@@ -82,7 +82,7 @@ window-last areas place last w below is writes p b s ends apart =
           (apart-fails addr len w (get_or areas k last) (area_bounds last) some within (sym b) (sym s) (early k before))));
     }
 
--- in a window of no byte nothing lies
+-- nothing is in an empty window
 pub window-empty : (bs : List Bounds) (w : Window) → w.base ≡ 0 → w.size ≡ 0 → IsWindowOf bs w
 window-empty bs w b s = record {
   ends = omega (arith, b, s);
@@ -92,7 +92,7 @@ window-empty bs w b s = record {
 
 pub ruleset beginning = (window-last, window-empty)
 
--- the index of the region that an access in the window lies in
+-- the index of the region that contains an access in the window
 window-at : (m : Memory) (w : Window) (addr width : ℕ) → IsWindowOf (bounds_of m) w → IsWidth width → IsTrue (lies_within addr width w) →
     Some w.place ≡ position (lies_in addr width) m.areas
 unfolding bounds_of
@@ -132,7 +132,7 @@ pub window-memory : (m : Memory) (w : Window) (addr width : ℕ) (b : List ℕ) 
     IsTrue (lies_within addr width w) → memory_with m addr width b ≡ memory_at m w.place addr b
 window-memory m w addr width b h i within = memory_with-place m addr width b w.place (window-writes m w addr width h i within)
 
--- after a store it is a window still
+-- after a store it is still a window
 pub window-stored : (m : Memory) (w : Window) (addr width n : ℕ) → IsWindowOf (bounds_of m) w → IsWindowOf (bounds_of (stored m addr width n)) w
 window-stored m w addr width n h = subst (λ (bs : List Bounds). IsWindowOf bs w) (sym (bounds-stored m addr width n)) h
 

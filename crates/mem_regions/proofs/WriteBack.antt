@@ -26,7 +26,7 @@ back_between : (xs ys zs w bytes : List ℕ) (at : ℕ) → (xs ++ ys) ++ zs ≡
     overwritten (overwritten bytes at w) at ys ≡ bytes
 back_between xs ys zs w bytes at e f g = rw (← e, ← f, overwritten-between xs ys zs w g) (overwritten-between xs w zs ys (sym g))
 
--- bytes that were overwritten are restored once they are written back
+-- bytes that were overwritten are restored when they are written back
 pub overwritten-back : (bytes : List ℕ) (at len : ℕ) (w : List ℕ) → at + len ≤ length bytes → length w ≡ len →
     overwritten (overwritten bytes at w) at (take len (drop at bytes)) ≡ bytes
 overwritten-back bytes at len w within e =
@@ -35,7 +35,7 @@ overwritten-back bytes at len w within e =
     let middle : length w ≡ length (take len (drop at bytes)) = rw (length-take, length-drop) (omega arith) in
     back_between (take at bytes) (take len (drop at bytes)) (drop len (drop at bytes)) w bytes at whole front middle
 
--- a region that was written is as before once its bytes are written back
+-- a region that was written is as before when its bytes are written back
 pub area_with-back : (addr len : ℕ) (w : List ℕ) (a : Area) → writes_in addr len a ≡ true → length w ≡ len →
     area_with addr (bytes_in addr len a) (area_with addr w a) ≡ a
 area_with-back addr len w a e f =
@@ -63,7 +63,7 @@ first_changed-back addr len w old [] g h = cc
 first_changed-back addr len w old (x ∷ xs) g h = back_step addr len w old x xs (first_changed (writes_in addr len) (area_with addr w) xs)
     (writes_in addr len x) refl (writes_in-area_with addr len w x) g h (first_changed-back addr len w old xs g)
 
--- memory that was written is as before once its bytes are written back
+-- memory that was written is as before when its bytes are written back
 pub memory_with-back : (m : Memory) (addr len : ℕ) (w old : List ℕ) → length w ≡ len → writable_of m addr len ≡ Some old →
     memory_with (memory_with m addr len w) addr len old ≡ m
 unfolding memory_with writable_of

@@ -14,11 +14,11 @@ use Rattle.mem_regions.specs.Lending.{no_area, area_at, memory_at}
 use Rattle.mem_regions.proofs.Finding.{list_any-map}
 use Rattle.mem_regions.proofs.Places.{place_of, none_of}
 
--- a range that may be written in a region lies in it
+-- a range that may be written in a region is in that region
 pub writes-lies : (addr len : ℕ) (a : Area) → writes_in addr len a ≡ true → IsTrue (lies_in addr len a)
 writes-lies addr len a e = grind (arith, nat_tests)
 
--- an access is permitted by bounds where it is by the regions that have them
+-- an access is permitted by bounds if it is permitted by the regions that have them
 pub permitted-areas : (m : Memory) (addr len : ℕ) (write : Bool) → is_permitted (bounds_of m) addr len write ≡ list_any (permits_area addr len write) m.areas
 unfolding is_permitted bounds_of
 permitted-areas m addr len write = list_any-map (permits_in addr len write) area_bounds m.areas
@@ -29,7 +29,7 @@ pub ruleset permitting = (permitted-areas)
 pub place_below : (m : Memory) (addr len i : ℕ) → Some i ≡ position (writes_in addr len) m.areas → i < length m.areas
 place_below m addr len i e = (place_of (writes_in addr len) m.areas i no_area e).below
 
--- the range lies in the region at its index
+-- the range is in the region at its index
 pub place_holds : (m : Memory) (addr len i : ℕ) → Some i ≡ position (writes_in addr len) m.areas → IsTrue (lies_in addr len (area_at m i))
 place_holds m addr len i e = writes-lies addr len (area_at m i) (place_of (writes_in addr len) m.areas i no_area e).passes
 
@@ -60,7 +60,7 @@ pub writable_of-place : (m : Memory) (addr len i : ℕ) → Some i ≡ position 
 unfolding writable_of
 writable_of-place m addr len i e = ap (option_map (bytes_in addr len)) (place_of (writes_in addr len) m.areas i no_area e).found
 
--- without an index there are no such bytes
+-- if there is no index, there are no such bytes
 pub writable_of-none : (m : Memory) (addr len : ℕ) → None ≡ position (writes_in addr len) m.areas → writable_of m addr len ≡ None
 unfolding writable_of
 writable_of-none m addr len e = ap (option_map (bytes_in addr len)) (none_of (writes_in addr len) m.areas e).found
@@ -69,13 +69,13 @@ pub ruleset missing = (writable_of-none)
 
 pub ruleset storing = (place_below, place_holds, place_permits, no_place_permits, memory_with-place, memory_with-none, writable_of-place)
 
--- by whether there is an index
+-- the cases where there is an index, or none
 can_step : (m : Memory) (addr len : ℕ) (place : Option ℕ) → place ≡ position (writes_in addr len) m.areas →
     is_some place ≡ is_permitted (bounds_of m) addr len true
 can_step m addr len None e = sym (no_place_permits m addr len e)
 can_step m addr len (Some i) e = sym (place_permits m addr len i e)
 
--- a range can be written where it has an index
+-- a range can be written if it has an index
 pub is_some-can_write : (m : Memory) (addr len : ℕ) → is_some (position (writes_in addr len) m.areas) ≡ can_write m addr len
 unfolding can_write
 is_some-can_write m addr len = can_step m addr len (position (writes_in addr len) m.areas) refl

@@ -22,15 +22,15 @@ area_bounds a = record { base = a.base; size = length a.bytes; write = a.write; 
 unfoldable pub bounds_of : Memory → List Bounds
 bounds_of m = map area_bounds m.areas
 
--- the range lies in the region; one of length 0 lies in it from its base to its end, both included
+-- the range is in the region; a range of length 0 is in it from its base to its end, both included
 abbrev pub holds : ℕ → ℕ → Bounds → Bool
 holds addr len b = nat_le b.base addr && nat_le (addr + len) (b.base + b.size)
 
--- the range lies in the region, and the region may be written where the access is a store
+-- the range is in the region, and the region may be written if the access is a store
 abbrev pub permits_in : ℕ → ℕ → Bool → Bounds → Bool
 permits_in addr len write b = holds addr len b && (not write || b.write)
 
--- the width divides the address
+-- the address is a multiple of the width
 abbrev pub is_aligned : ℕ → ℕ → Bool
 is_aligned addr width = addr % width == 0
 
@@ -38,7 +38,7 @@ is_aligned addr width = addr % width == 0
 abbrev pub IsWidth : ℕ → Type 0
 IsWidth width = (width ≡ 1) ⊎ (width ≡ 2) ⊎ (width ≡ 4)
 
--- all bytes of the range lie in one region that permits the access
+-- all bytes of the range are in one region that permits the access
 unfoldable pub is_permitted : List Bounds → ℕ → ℕ → Bool → Bool
 is_permitted bs addr len write = list_any (permits_in addr len write) bs
 
@@ -46,7 +46,7 @@ is_permitted bs addr len write = list_any (permits_in addr len write) bs
 unfoldable pub permits_at : List Bounds → ℕ → ℕ → Bool → Result (Unit {0}) MemErr
 permits_at bs addr width write = if is_aligned addr width then (if is_permitted bs addr width write then Ok tt else Err NoAccess) else Err Misaligned
 
--- the answer without the value that it gives: permitted, or why not
+-- the answer without its value: permitted, or why not
 abbrev pub permission_told : {A : Type 0} → Result A MemErr → Result (Unit {0}) MemErr
 permission_told (Ok x) = Ok tt
 permission_told (Err e) = Err e

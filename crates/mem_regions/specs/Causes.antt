@@ -1,4 +1,4 @@
--- What each refusal says of the parts of a program, and what is true of parts that are accepted.
+-- What each refusal says about the parts of a program, and what holds for parts that are accepted.
 use Rattle.std.specs.Prelude.{◌≡◌, ℕ, ◌-◌, ◌^◌, ◌<◌, ◌≤◌, List, length, min, All}
 use Rattle.std.specs.List.{HoldsAt}
 use Rattle.mem_regions.specs.declared.part.Part.{Part}
@@ -41,7 +41,7 @@ pub record IsFirstOverlap (parts : List Part) (i j : ℕ) : Type 0 where
   pub least_second : (k n : ℕ) → k < n → n < j → ApartAt parts k n
   pub least_first : (k : ℕ) → k < i → ApartAt parts k j
 
--- what a refusal says of the parts
+-- what a refusal says about the parts
 abbrev pub IsLoadCause : List Part → LoadErr → Type 0
 IsLoadCause parts (TooMany n) = (16 < length parts) × (n ≡ min (length parts) (2 ^ 32 - 1))
 IsLoadCause parts (WrapsAround i) = IsFirstToWrap parts i
@@ -49,7 +49,7 @@ IsLoadCause parts (TooLarge n) = (67108864 < total_size parts) × (n ≡ total_s
 IsLoadCause parts (Overlap i j) = IsFirstOverlap parts i j
 IsLoadCause parts NoMemory = Unit
 
--- what is true of parts that are accepted
+-- what holds for parts that are accepted
 pub record AreAccepted (parts : List Part) : Type 0 where
   pub few : length parts ≤ 16
   pub in_space : All (λ p. ¬ Wraps p) parts

@@ -8,7 +8,7 @@ use Rattle.mem_regions.specs.Bytes.{le_number}
 use Rattle.mem_regions.specs.declared.access.MemErr.{MemErr}
 use Rattle.mem_regions.specs.declared.access.MemErr.TheVariants.{Misaligned, NoAccess}
 
--- the word lies in the region, and the region is executable
+-- the word is in the region, and the region is executable
 abbrev pub fetches_in : ℕ → Area → Bool
 fetches_in pc a = holds pc 4 (area_bounds a) && a.exec
 
@@ -21,14 +21,14 @@ abbrev pub word_found : ℕ → Option Area → Result ℕ MemErr
 word_found pc None = Err NoAccess
 word_found pc (Some a) = Ok (word_in pc a)
 
--- the word at the address, where it is aligned and lies in one executable region
+-- the word at the address, if it is aligned and in one executable region
 unfoldable pub fetch_at : Memory → ℕ → Result ℕ MemErr
 fetch_at m pc = if is_aligned pc 4 then word_found pc (find (fetches_in pc) m.areas) else Err Misaligned
 
--- the region with the code that its bytes are now
+-- the region, whose code is now a copy of its bytes
 abbrev pub synced_area : Area → Area
 synced_area a = record a { code = if a.exec then a.bytes else a.code }
 
--- memory once each executable region's code is a copy of its bytes again
+-- memory when each executable region's code is a copy of its bytes again
 unfoldable pub synced : Memory → Memory
 synced m = record m { areas = map synced_area m.areas }

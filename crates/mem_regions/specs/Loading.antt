@@ -1,11 +1,11 @@
--- The memory that the parts of a program make: a region for each part of a size above 0 (Tool Interface Standard,
--- "Executable and Linking Format", program loading).
+-- The memory that is made from the parts of a program: a region for each part of a size above 0 (Tool Interface
+-- Standard, "Executable and Linking Format", program loading).
 use Rattle.std.specs.Prelude.{ℕ, ◌+◌, ◌-◌, ◌≤◌, List, [], ◌++◌, length, take, drop, replicate, filter, map, Bool, if◌then◌else◌, nat_lt}
 use Rattle.mem_regions.specs.Area.{Area}
 use Rattle.mem_regions.specs.Memory.{Memory}
 use Rattle.mem_regions.specs.declared.part.Part.{Part}
 
--- the part's bytes lie in the file, and it has no more of them than its size
+-- the part's bytes are in the file, and their number is at most its size
 pub record LiesIn (file : List ℕ) (p : Part) : Type 0 where
   pub in_file : p.start + p.len ≤ length file
   pub in_size : p.len ≤ p.size
@@ -14,7 +14,7 @@ pub record LiesIn (file : List ℕ) (p : Part) : Type 0 where
 abbrev pub image_of : List ℕ → Part → List ℕ
 image_of file p = take p.len (drop p.start file) ++ replicate (p.size - p.len) 0
 
--- the region of a part, whose code is a copy of its bytes where it is executable
+-- the region of a part; its code is a copy of its bytes if it is executable
 abbrev pub area_of : List ℕ → Part → Area
 area_of file p = record { base = p.base; write = p.write; exec = p.exec; bytes = image_of file p; code = if p.exec then image_of file p else [] }
 

@@ -38,7 +38,7 @@ total_size parts = sum_by (λ p. p.size) parts
 unfoldable pub too_large : List Part → Option LoadErr
 too_large parts = if nat_lt 67108864 (total_size parts) then Some (TooLarge (total_size parts)) else None
 
--- the first overlap of a part with those before it, or else that of the later parts
+-- the first overlap of a part with those before it, or otherwise that of the later parts
 abbrev pub overlap_or : Option ℕ → ℕ → Option LoadErr → Option LoadErr
 overlap_or None j after = after
 overlap_or (Some i) j after = Some (Overlap i j)
@@ -61,7 +61,7 @@ abbrev pub load_answer : Option LoadErr → Result (Unit {0}) LoadErr
 load_answer None = Ok tt
 load_answer (Some e) = Err e
 
--- the refusal of the parts in an answer: none where there was no memory
+-- the refusal of the parts in an answer: none if there was not enough memory
 abbrev pub refusal_told : LoadErr → Option LoadErr
 refusal_told NoMemory = None
 refusal_told e = Some e

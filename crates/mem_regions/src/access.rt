@@ -16,7 +16,7 @@ use crate::region::Region;
 /// Why an access is refused.
 #[derive(Clone, Copy, PartialEq, Eq)]
 pub enum MemErr {
-    /// The width does not divide the address.
+    /// The address is not a multiple of the width.
     Misaligned,
     /// The address is aligned, but no region that permits the access holds all its bytes.
     NoAccess,
@@ -42,7 +42,7 @@ fn any_permits(list: &[Region], addr: u32, width: u32, write: bool) -> bool
 }
 
 impl Regions {
-    /// The number that a load gives.
+    /// The number that a load reads.
     #[inline(always)]
     #[tactic(auto, using(crate::proofs::Finding::finding), unfolding(crate::specs::Ranges::load_at, crate::specs::Ranges::range_of))]
     fn number_at(&self, addr: u32, width: u32) -> Result<u32, MemErr>
@@ -58,8 +58,8 @@ impl Regions {
         }
     }
 
-    /// The little-endian number of 1, 2 or 4 bytes at the address, not sign-extended. The refusal is `Misaligned` where
-    /// the width does not divide the address, and otherwise `NoAccess` where the bytes do not lie in one region.
+    /// The little-endian number of 1, 2 or 4 bytes at the address, not sign-extended. The refusal is `Misaligned` if
+    /// the address is not a multiple of the width, and otherwise `NoAccess` if the bytes are not in one region.
     #[inline(always)]
     #[tactic(auto, using(crate::proofs::Loads::permission))]
     pub fn load_number(&self, addr: u32, width: u32) -> Result<u32, MemErr>
@@ -123,8 +123,8 @@ impl Regions {
     }
 
     /// Writes the low 1, 2 or 4 bytes of the number at the address, in little-endian order. The code of a region is
-    /// unchanged. The refusal is `Misaligned` where the width does not divide the address, and otherwise `NoAccess`
-    /// where the bytes do not lie in one writable region; memory is then unchanged.
+    /// unchanged. The refusal is `Misaligned` if the address is not a multiple of the width, and otherwise `NoAccess`
+    /// if the bytes are not in one writable region; memory is then unchanged.
     #[inline(always)]
     pub fn store(&mut self, addr: u32, width: u32, number: u32) -> Result<(), MemErr>
         requires { IsWidth width }
@@ -140,7 +140,7 @@ impl Regions {
         }
     }
 
-    /// Whether a load of 1, 2 or 4 bytes at the address, or a store where `write` is set, is permitted, and why not.
+    /// Whether a load of 1, 2 or 4 bytes at the address, or a store if `write` is set, is permitted, and why not.
     #[inline(always)]
     #[tactic(auto, using(crate::proofs::Writes::permitting), unfolding(crate::specs::Access::permits_at))]
     pub fn permits(&self, addr: u32, width: u32, write: bool) -> Result<(), MemErr>

@@ -16,8 +16,8 @@ fn find_fetching<'a>(list: &'a [Region], pc: u32) -> Option<&'a Region>
 }
 
 impl Regions {
-    /// The instruction word at the address, from the code of an executable region. The refusal is `Misaligned` where 4
-    /// does not divide the address, and otherwise `NoAccess` where the word does not lie in one executable region.
+    /// The instruction word at the address, from the code of an executable region. The refusal is `Misaligned` if the
+    /// address is not a multiple of 4, and otherwise `NoAccess` if the word is not in one executable region.
     #[inline(always)]
     #[tactic(auto, using(crate::proofs::Finding::finding), unfolding(crate::specs::Fetching::fetch_at))]
     pub fn fetch(&self, pc: u32) -> Result<u32, MemErr>
@@ -32,7 +32,7 @@ impl Regions {
         }
     }
 
-    /// Makes the code of each executable region a copy of its bytes, as FENCE.I does.
+    /// Makes the code of each executable region a copy of its bytes again, as FENCE.I does.
     #[tactic(auto, unfolding(crate::specs::Fetching::synced))]
     pub fn sync_code(&mut self)
         ensures { self.new ≡ synced self.old }

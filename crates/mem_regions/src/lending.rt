@@ -7,7 +7,7 @@ ghost use Rattle.mem_regions.specs.Ranges.{lies_in, writes_in, bytes_in, range_o
 use crate::Regions;
 use crate::region::Region;
 
-/// The first region that the range lies in.
+/// The first region that contains the range.
 fn find_holding<'a>(list: &'a [Region], addr: u32, len: u32) -> Option<&'a Region>
     ensures { option_copied result ≡ find (lies_in addr len) list.now }
 {
@@ -15,8 +15,8 @@ fn find_holding<'a>(list: &'a [Region], addr: u32, len: u32) -> Option<&'a Regio
 }
 
 impl Regions {
-    /// The bytes of the range, or `None` where it does not lie in one region. A range of length 0 lies in a region from
-    /// its base to its end, both included.
+    /// The bytes of the range, or `None` if it is not in one region. A range of length 0 is in a region from its base
+    /// to its end, both included.
     #[tactic(auto, using(crate::proofs::Finding::finding), unfolding(crate::specs::Ranges::range_of))]
     pub fn part(&self, addr: u32, len: u32) -> Option<&[u8]>
         ensures none { IfNone result (range_of self.now addr len ≡ None) }
@@ -34,7 +34,7 @@ impl Regions {
         self.list.iter().position(|region| region.writes(addr, len))
     }
 
-    /// Whether the range lies in one writable region.
+    /// Whether the range is in one writable region.
     #[tactic(auto, using(crate::proofs::Writes::finding_a_place))]
     pub fn is_writable(&self, addr: u32, len: u32) -> bool
         ensures { result ≡ can_write self.now addr len }
@@ -42,7 +42,7 @@ impl Regions {
         self.place_to_write(addr, len).is_some()
     }
 
-    /// The same index, where there is one.
+    /// The same index, if there is one.
     #[tactic(auto, using(crate::proofs::Writes::having_a_place))]
     fn writable_place(&self, addr: u32, len: u32) -> usize
         requires { IsTrue (can_write self.now addr len) }
@@ -72,7 +72,7 @@ impl Regions {
         region.range_mut(addr, len)
     }
 
-    /// The bytes of a range that lies in one writable region, borrowed for writing.
+    /// The bytes of a range that is in one writable region, borrowed for writing.
     #[tactic(auto, using(crate::proofs::Writes::storing))]
     pub fn writable(&mut self, addr: u32, len: u32) -> &mut [u8]
         requires { IsTrue (can_write self.old addr len) }
@@ -84,8 +84,8 @@ impl Regions {
         self.range_at(place, addr, len)
     }
 
-    /// The bytes of a range, borrowed for writing, or `None` where it does not lie in one writable region. Writing
-    /// through the borrow changes these bytes of memory and nothing else.
+    /// The bytes of a range, borrowed for writing, or `None` if it is not in one writable region. Writing through the
+    /// borrow changes these bytes of memory and nothing else.
     pub fn part_mut(&mut self, addr: u32, len: u32) -> Option<&mut [u8]>
         ensures* writes_back { sem 𝓛 (LendsPart self.entry addr len result) }
         ensures bytes { lent_bytes result ≡ writable_of self.old addr len }

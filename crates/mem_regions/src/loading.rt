@@ -61,11 +61,10 @@ fn make_regions(alloc: Global, file: &[u8], parts: &[Part]) -> Result<Vec<Region
 
 impl Regions {
     /// The memory of a program with these parts of the file. Each part of a size above 0 makes a region: the part's
-    /// bytes, then zeros, and, where it is executable, a copy of these as its code. The break is at the start of the
-    /// heap.
+    /// bytes, then zeros, and, if it is executable, a copy of these as its code. The break is at the start of the heap.
     ///
-    /// `TooMany`, `WrapsAround`, `TooLarge` and `Overlap` are tested in this order; then `NoMemory` is returned where
-    /// there is no memory for a region. A part of size 0 makes no region and overlaps none.
+    /// `TooMany`, `WrapsAround`, `TooLarge` and `Overlap` are tested in this order; then `NoMemory` is returned if
+    /// there is not enough memory for a region. A part of size 0 makes no region and overlaps none.
     #[tactic(auto, using(crate::proofs::Parts::ends, crate::proofs::Causes::causes), unfolding(crate::specs::Loading::loaded))]
     pub fn load(alloc: Global, file: &[u8], parts: &[Part]) -> Result<Regions, LoadErr>
         requires { All (LiesIn file.now) parts.now }

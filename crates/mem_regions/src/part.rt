@@ -1,6 +1,6 @@
 //! The parts of a program.
 
-/// A part of a program as its file describes it: where its bytes are in the file, and where in memory, with their
+/// A part of a program as its file describes it: where its bytes are in the file, where they are in memory, and their
 /// permissions.
 #[derive(Clone, Copy)]
 pub struct Part {
@@ -14,6 +14,6 @@ pub struct Part {
     pub size: u32,
     /// Whether the program may write to it.
     pub write: bool,
-    /// Whether its words may be fetched as instructions.
+    /// Whether its words can be fetched as instructions.
     pub exec: bool,
 }

@@ -10,13 +10,13 @@ use crate::Part;
 pub enum LoadErr {
     /// Two parts share an address: the pair with the earliest second part, and then with the earliest first part.
     Overlap(u32, u32),
-    /// There are more than 16 parts: their number, capped at the greatest number of 32 bits.
+    /// There are more than 16 parts: their number, capped at the maximum number of 32 bits.
     TooMany(u32),
-    /// The parts have this number of bytes in all, over 67,108,864.
+    /// The parts have this number of bytes in total, over 67,108,864.
     TooLarge(u64),
     /// The first part that ends beyond the last address.
     WrapsAround(u32),
-    /// There was no memory for the regions.
+    /// There was not enough memory for the regions.
     NoMemory,
 }
 

@@ -10,7 +10,7 @@ ghost use Rattle.mem_regions.specs.Bytes.{le_bytes};
 use crate::numbers::{bytes_of, word_of};
 use std::marker::Model;
 
-/// A region: its bytes, and where it is executable a copy of them as its code.
+/// A region: its bytes, and, if it is executable, a copy of them as its code.
 #[derive(Drop)]
 pub(crate) struct Region {
     pub(crate) base: u32,
@@ -33,7 +33,7 @@ impl Model for Region {
 }
 
 impl Region {
-    /// Whether the range lies in the region.
+    /// Whether the range is in the region.
     pub(crate) fn holds(&self, addr: u32, len: u32) -> bool
         ensures { result ≡ lies_in addr len self.now }
     {
@@ -48,7 +48,7 @@ impl Region {
         self.holds(addr, len) && self.write
     }
 
-    /// Whether a range of at least one byte lies in the region.
+    /// Whether a range of at least one byte is in the region.
     #[inline(always)]
     #[tactic(auto, using(crate::proofs::RegionLemmas::offsets))]
     pub(crate) fn holds_some(&self, addr: u32, len: u32) -> bool
@@ -68,7 +68,7 @@ impl Region {
         self.holds_some(addr, len) && (!write || self.write)
     }
 
-    /// Whether the word lies in the region, and the region is executable.
+    /// Whether the word is in the region, and the region is executable.
     #[inline(always)]
     pub(crate) fn fetches(&self, pc: u32) -> bool
         ensures { result ≡ fetches_in pc self.now }
@@ -95,7 +95,7 @@ impl Region {
         }
     }
 
-    /// The bytes of a range that lies in the region.
+    /// The bytes of a range in the region.
     #[inline(always)]
     pub(crate) fn range(&self, addr: u32, len: u32) -> &[u8]
         requires { IsTrue (lies_in addr len self.now) }
@@ -111,7 +111,7 @@ impl Region {
     ghost use Rattle.std.specs.Borrow.{sem};
     ghost use Rattle.mem_regions.specs.Lending.{LendsRange};
 
-    /// The bytes of a range that lies in the region, borrowed for writing.
+    /// The bytes of a range in the region, borrowed for writing.
     #[inline(always)]
     pub(crate) fn range_mut(&mut self, addr: u32, len: u32) -> &mut [u8]
         requires { IsTrue (lies_in addr len self.old) }

@@ -1,4 +1,4 @@
-//! The number that a store overwrites, and putting it back.
+//! The number that a store overwrites, and restoring it.
 
 ghost use Rattle.std.specs.Prelude.{◌≡◌, ◌<◌, Some, None, IfSome, IfNone, IsTrue, length};
 ghost use Rattle.mem_regions.specs.Access.{IsWidth};
@@ -39,8 +39,8 @@ impl Regions {
         number_in(region.range(addr, width))
     }
 
-    /// The number of 1, 2 or 4 bytes that a store at the address would overwrite, or `None` where they do not lie in
-    /// one writable region.
+    /// The number of 1, 2 or 4 bytes that a store at the address would overwrite, or `None` if they are not in one
+    /// writable region.
     #[inline(always)]
     #[tactic(auto, using(crate::proofs::Writes::storing, crate::proofs::Writes::missing))]
     pub fn number_under(&self, addr: u32, width: u32) -> Option<u32>
@@ -52,8 +52,8 @@ impl Regions {
         Some(self.number_in_region(place, addr, width))
     }
 
-    /// Puts back the number of 1, 2 or 4 bytes that a store overwrote. Where they do not lie in one writable region,
-    /// memory is unchanged.
+    /// Restores the number of 1, 2 or 4 bytes that a store overwrote. If they are not in one writable region, memory is
+    /// unchanged.
     #[inline(always)]
     #[tactic(auto, using(crate::proofs::Writes::storing))]
     pub fn put_back(&mut self, addr: u32, width: u32, number: u32)

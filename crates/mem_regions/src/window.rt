@@ -1,4 +1,4 @@
-//! The region that is looked at before all others.
+//! The region that is tried before all others.
 
 ghost use Rattle.std.specs.Prelude.{◌≡◌, ◌+◌, ◌≤◌, ◌<◌, ◌^◌, Some, IsTrue, OnErr, length, map, true};
 ghost use Rattle.std.specs.List.{list_all};
@@ -13,8 +13,8 @@ use crate::numbers::number_of;
 use crate::region::Region;
 use crate::{MemErr, Regions};
 
-/// Where the last region is, if a program may write to it and it shares no address with another; otherwise it is empty.
-/// Programs use the last region most: it is their stack.
+/// The position of the last region, if a program may write to it and it shares no address with another; otherwise the
+/// window is empty. Programs use the last region most: it is their stack.
 #[derive(Clone, Copy)]
 pub struct Window {
     pub(crate) place: usize,
@@ -22,7 +22,7 @@ pub struct Window {
     pub(crate) size: u64,
 }
 
-/// A window in which no access lies.
+/// A window that contains no access.
 const EMPTY: Window = Window {
     place: 0,
     base: 0,
@@ -68,7 +68,7 @@ fn window_of(list: &[Region]) -> Window
 }
 
 impl Window {
-    /// Whether an access of at least one byte lies in the window.
+    /// Whether an access of at least one byte is in the window.
     #[inline(always)]
     #[tactic(auto, using(crate::proofs::RegionLemmas::offsets))]
     fn holds(&self, addr: u32, width: u32) -> bool
@@ -82,7 +82,7 @@ impl Window {
 }
 
 impl Regions {
-    /// The region to look at before all others.
+    /// The region to try before all others.
     #[tactic(auto, unfolding(crate::specs::Access::bounds_of))]
     pub fn window(&self) -> Window
         ensures { IsWindowOf (bounds_of self.now) result }
@@ -114,7 +114,7 @@ impl Regions {
         self.store_at(window.place, addr, width, number);
     }
 
-    /// The same as [`Regions::load_number`]: the window is looked at first, which is faster.
+    /// The same as [`Regions::load_number`]: the window is tried first, which is faster.
     #[inline(always)]
     #[tactic(auto, using(crate::proofs::Windows::loading), unfolding(crate::specs::Ranges::load_at))]
     pub fn load_number_by(&self, window: Window, addr: u32, width: u32) -> Result<u32, MemErr>
@@ -128,7 +128,7 @@ impl Regions {
         self.load_number(addr, width)
     }
 
-    /// The same as [`Regions::store`]: the window is looked at first, which is faster.
+    /// The same as [`Regions::store`]: the window is tried first, which is faster.
     #[inline(always)]
     #[tactic(auto, using(crate::proofs::Windows::storing), unfolding(crate::specs::Access::permits_at, crate::specs::Writing::stored))]
     pub fn store_by(

@@ -1,5 +1,5 @@
--- No more instructions retire than are issued: each move keeps the number of those in the stages and those retired, but for
--- Issue, which adds one, and moves that put one in the place of another.
+-- No more instructions retire than are issued: each move preserves the number of instructions in the stages plus that
+-- of retired ones, except Issue, which adds one, and moves that replace one instruction by another.
 use Rattle.std.proofs.Common.{◌≡◌, ℕ, zero, suc, ◌+◌, ◌-◌, ◌<◌, ◌≤◌, List, [], ◌∷◌, get_or, Option, Some, None, Bool, true, false, cond, refl, ap, ◌∙◌, arith, length}
 use Rattle.std.specs.Prelude.{slice_get, slice_index, slice_set}
 use Rattle.std.proofs.lemmas.List.Sums.{sum_by-set}
@@ -27,7 +27,7 @@ use Rattle.order_model.specs.RuleMoves.{cell_met_without, leaving_without, left_
 use Rattle.order_claims.specs.MoveLists.{moment_after_without}
 use Rattle.order_claims.specs.Claims.{instructions_held, RetiresWhatWasIssued}
 
--- one, where the stage has an instruction
+-- one, if the stage has an instruction
 abbrev one : Cell → ℕ
 one c = cond (is_some c.passenger) 1 0
 
@@ -45,7 +45,7 @@ put_held cells (suc k) c e there =
     let sum = sum_by-set (λ d. cond (is_some d.passenger) 1 0) cells k e c inside in
     let here = ap one same in omega (arith, sum, here)
 
--- a stage with at most so many instructions more
+-- a stage with at most this many instructions more
 replaced : (s : State) (i : ℕ) (c e : Cell) (n : ℕ) → cell_at s.cells i ≡ Some c → one e ≤ one c + n →
     instructions_held (put_cell s.cells i e) + s.retired ≤ count_in s + n
 replaced s i c e n there few = omega (arith, put_held s.cells i c e there, few)
@@ -65,7 +65,7 @@ above_none : (cells : List Cell) (i : ℕ) (c : Cell) → cell_at cells i ≡ So
 above_none cells zero c there = absurd (cc)
 above_none cells (suc k) c there = omega arith
 
--- what a choice leads to is bounded where both ways are
+-- the state that a choice leads to is bounded if it is in both cases
 chosen : {A : Type 0} (o : Option A) (d : State) (f : A → State) (bound : ℕ) → count_in d ≤ bound →
     ((a : A) → o ≡ Some a → count_in (f a) ≤ bound) → count_in (on o d f) ≤ bound
 chosen None d f bound h k = h
@@ -75,7 +75,7 @@ either : (b : Bool) (x y : State) (bound : ℕ) → count_in x ≤ bound → cou
 either true x y bound h k = h
 either false x y bound h k = k
 
--- on a stage, and on a stage and its instruction; where one is missing nothing changes
+-- for a stage, and for a stage and its instruction; if one is missing, nothing changes
 at_stage : (s : State) (i n : ℕ) (f : Cell → State) → ((c : Cell) → cell_at s.cells i ≡ Some c → count_in (f c) ≤ count_in s + n) →
     count_in (on (cell_at s.cells i) s f) ≤ count_in s + n
 at_stage s i n f h = chosen (cell_at s.cells i) s f (count_in s + n) (omega arith) h
@@ -124,7 +124,7 @@ unfolding moved
 fall_held plan s i = at_stage s i 0 (λ c. on (cell_at s.cells (i - 1)) s (fallen s i c))
     (λ c high. at_stage s (i - 1) 0 (fallen s i c) (λ d low. falling s i c d high low))
 
--- a stage whose instruction is another one
+-- a stage whose instruction is replaced by another one
 rider_replaced : (s : State) (i : ℕ) (c : Cell) (p : Passenger) (e : Cell) → cell_at s.cells i ≡ Some c → c.passenger ≡ Some p →
     instructions_held (put_cell s.cells i e) + s.retired ≤ count_in s + 0
 rider_replaced s i c p e there sits = replaced s i c e 0 there (omega (arith, ridden c p sits, one_most e))
@@ -195,7 +195,7 @@ unfolding moved
 exit_held plan s = at_stage s 1 0 (exited plan s)
     (λ c there. chosen c.packet s _ (count_in s + 0) (omega arith) (λ k lies. replaced s 1 c (without_packet c) 0 there (omega arith)))
 
--- the same of a moment
+-- the same for a moment
 chosen_moment : {A : Type 0} (o : Option A) (d : Moment) (f : A → Moment) (bound : ℕ) → count_in d.state ≤ bound →
     ((a : A) → o ≡ Some a → count_in (f a).state ≤ bound) → count_in (on o d f).state ≤ bound
 chosen_moment None d f bound h k = h

@@ -51,7 +51,7 @@ leads_allowed bars may_issue (n ∷ moves) m there =
     by rest None is false there = rest there
     by rest None is true (k, within, same) = here k within same is rest
 
--- the moves that lead on depend on the bars alone
+-- the moves that lead on depend only on the bars
 leading_alike : (bars other : Move → Option Bar) → ((m : Move) → bars m ≡ other m) → (may_issue : Bool) (moves : List Move) →
     leading bars may_issue moves ≡ leading other may_issue moves
 unfolding leading
@@ -60,7 +60,7 @@ leading_alike bars other same may_issue (m ∷ moves) =
     ap (λ b. cond (not (is_some b) && (may_issue || not (is_issue m))) (m ∷ leading bars may_issue moves) (leading bars may_issue moves)) (same m)
     ∙ ap (λ l. cond (not (is_some (other m)) && (may_issue || not (is_issue m))) (m ∷ l) l) (leading_alike bars other same may_issue moves)
 
--- a move retires what it does in the table
+-- a move retires the same as in the table
 line_unchanged : (p : Passenger) → option_to_list (line_without None p) ≡ retired_by p
 unfolding rule_holds
 line_unchanged p = by p.dead p.ending
@@ -85,7 +85,7 @@ unfolding retires_without
 lines_unchanged plan s mv.Leave = standing_unchanged (cell_at s.cells plan.stages)
 lines_unchanged plan s m = refl
 
--- a run and one move more
+-- a run and one more move
 allowed_push : (plan : Plan) (m : Moment) (moves : List Move) (last : Move) → IsRun plan m moves → bar plan (run plan m moves).state last ≡ None →
     IsRun plan m (moves ++ last ∷ [])
 unfolding IsRun run
@@ -104,7 +104,7 @@ reached_next plan x m last r here = record {
   is = ap (λ (n : Moment). next plan n last) r.is ∙ sym (run_push plan (start plan x) r.moves last);
 }
 
--- the machine after as many steps is one
+-- the machine after a given number of steps is unique
 same_machine : {o : Option Machine} (a b : Machine) → o ≡ Some a → o ≡ Some b → b ≡ a
 same_machine a b e f = cc
 

@@ -1,4 +1,4 @@
--- Each move but Issue lowers a weight of the state, whichever rule is taken away, so that lists of moves end.
+-- Each move except Issue lowers a weight of the state, whichever rule is taken away, so lists of moves end.
 mod OrderWeight
 mod Weights
 mod Lowers

@@ -1,4 +1,4 @@
--- What holds of all lists of moves.
+-- What holds for all lists of moves.
 use Rattle.std.specs.Prelude.{◌≡◌, ◌≤◌, ◌+◌, ℕ, List, Option, None, length, count_by}
 use Rattle.rv_machine.specs.Machine.{Machine}
 use Rattle.cf_layout.specs.Layout.{Plan}
@@ -14,7 +14,7 @@ use Rattle.order_claims.specs.declared.wrong_kind.WrongKind.{WrongKind}
 use Rattle.order_claims.specs.MoveLists.{moment_after_without, IsOrder}
 use Rattle.order_claims.specs.WrongLists.{IsWrongOrder}
 
--- of the table itself no list of moves is wrong
+-- in the table itself no list of moves is wrong
 abbrev pub NoneIsWrong : Type 0
 NoneIsWrong = (plan : Plan) (x : Machine) (most : ℕ) (moves : List Move) (kind : WrongKind) → IsAccepted plan → length x.hart.regs ≡ 32 →
     IsWrongOrder None plan most x (start plan x) moves kind → ⊥
@@ -23,7 +23,7 @@ NoneIsWrong = (plan : Plan) (x : Machine) (most : ℕ) (moves : List Move) (kind
 abbrev pub instructions_held : List Cell → ℕ
 instructions_held cells = count_by (λ c. is_some c.passenger) cells
 
--- those that retired and those in the stages are no more than those before and those issued
+-- retired instructions and those in the stages together are at most those before plus those issued
 abbrev pub RetiresWhatWasIssued : Type 0
 RetiresWhatWasIssued = (away : Option Rule) (plan : Plan) (m : Moment) (moves : List Move) →
     instructions_held (moment_after_without away plan m moves).state.cells + (moment_after_without away plan m moves).state.retired

@@ -1,4 +1,4 @@
--- Lists of moves, each of which the table without a rule allows where it is made, with at most so many Issue moves.
+-- Lists of moves, each of which the table without a rule allows when it is made, with at most this many Issue moves.
 use Rattle.std.specs.Prelude.{ℕ, ◌+◌, List, [], ◌∷◌, Option, nat_lt}
 use Rattle.std.specs.List.{Contains}
 use Rattle.cf_layout.specs.Layout.{Plan}
@@ -11,15 +11,15 @@ use Rattle.order_rules.specs.declared.rule.Rule.{Rule}
 use Rattle.order_model.specs.RuleBars.{bar_without}
 use Rattle.order_model.specs.RuleMoves.{next_without}
 
--- the moves that lead on from a state, after so many Issue moves
+-- the moves that lead on from a state, after this many Issue moves
 abbrev pub moves_on : Option Rule → Plan → ℕ → State → ℕ → List Move
 moves_on away plan most s issued = leading (bar_without away plan s) (nat_lt issued most) (all_moves plan)
 
--- how many Issue moves were made once this move is
+-- the number of Issue moves after this move
 abbrev pub issued_with : ℕ → Move → ℕ
 issued_with issued mv = issued + counts (is_issue mv) 1
 
--- each move of the list leads on from where it is made
+-- each move of the list leads on from the state in which it is made
 unfoldable pub IsOrder : Option Rule → Plan → ℕ → Moment → ℕ → List Move → Type 0
 IsOrder away plan most m issued [] = Unit {0}
 IsOrder away plan most m issued (mv ∷ moves) =

@@ -1,5 +1,6 @@
--- When a list of moves is wrong at its last move: by the first of the tests that holds, those of a move before those of the
--- moment that it leads to. The machine is the sequential machine after as many steps as have retired instructions.
+-- When a list of moves is wrong at its last move: by the first of the tests that holds, the tests of a move before
+-- those of the moment that it leads to. The machine is the sequential machine after as many steps as instructions have
+-- retired.
 use Rattle.std.specs.Prelude.{◌≡◌, ℕ, List, [], ◌∷◌, Option, Some, ◌⊎◌}
 use Rattle.std.specs.Option.{option_to_list}
 use Rattle.rv_machine.specs.Machine.{Machine}
@@ -20,11 +21,11 @@ use Rattle.order_claims.specs.MoveLists.{moves_on, issued_with, IsOrder}
 abbrev pub FailsToRetire : Option Rule → Plan → Machine → Moment → Move → Type 0
 FailsToRetire away plan x m mv = RetiresWrongly (isa_of plan) x (option_to_list (retires_without away plan m.state mv))
 
--- the move ends the program otherwise than that step
+-- the move ends the program in another way than that step
 abbrev pub FailsToEnd : Option Rule → Plan → Machine → Moment → Move → Type 0
 FailsToEnd away plan x m mv = EndsWrongly (isa_of plan) x (next_without away plan m mv).state
 
--- the move fails by this test, and by none before it
+-- the move fails this test, and none before it
 abbrev pub FailsAs : Option Rule → Plan → Machine → Moment → Move → WrongKind → Type 0
 FailsAs away plan x m mv Retired = FailsToRetire away plan x m mv
 FailsAs away plan x m mv Ended = (FailsToRetire away plan x m mv → ⊥) × FailsToEnd away plan x m mv
@@ -33,13 +34,13 @@ FailsAs away plan x m mv Output =
 FailsAs away plan x m mv Stuck = ⊥
 FailsAs away plan x m mv Memory = ⊥
 
--- the machine is there after as many steps as have retired instructions, and the move fails
+-- the machine is there after as many steps as instructions have retired, and the move fails
 pub record IsWrongMove (away : Option Rule) (plan : Plan) (start : Machine) (m : Moment) (mv : Move) (kind : WrongKind) : Type 0 where
   pub at : Machine
   pub count : after (isa_of plan) start (gained start m.state) ≡ Some at
   pub fails : FailsAs away plan at m mv kind
 
--- the moment fails by this test, and by none before it
+-- the moment fails this test, and none before it
 abbrev pub RestsWronglyAs : List Move → Machine → Moment → WrongKind → Type 0
 RestsWronglyAs moves x m Retired = ⊥
 RestsWronglyAs moves x m Ended = ⊥
@@ -47,7 +48,7 @@ RestsWronglyAs moves x m Output = ⊥
 RestsWronglyAs moves x m Stuck = IsStuckWrongly moves m.state
 RestsWronglyAs moves x m Memory = (IsStuckWrongly moves m.state → ⊥) × RestsWrongly x m.state
 
--- the same of a moment, from which these moves lead on
+-- the same for a moment, from which these moves lead on
 pub record IsWrongMoment (plan : Plan) (start : Machine) (moves : List Move) (m : Moment) (kind : WrongKind) : Type 0 where
   pub at : Machine
   pub count : after (isa_of plan) start (gained start m.state) ≡ Some at

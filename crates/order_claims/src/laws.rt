@@ -2,7 +2,7 @@
 
 ghost use Rattle.order_claims.specs.Claims.{NoneIsWrong, OrdersEnd, RetiresWhatWasIssued};
 
-/// Where no rule is taken away, no list of moves is wrong, whatever the bound on its Issue moves.
+/// If no rule is taken away, no list of moves is wrong, whatever the limit on its Issue moves.
 #[tactic(auto, using(crate::proofs::NoneWrong::judging))]
 pub fn no_order_is_wrong()
     ensures { NoneIsWrong }
@@ -14,7 +14,8 @@ pub fn retires_no_more_than_issued()
     ensures { RetiresWhatWasIssued }
 {}
 
-/// Whichever rule is taken away, lists of moves end: from each moment, none has more moves than some number.
+/// Whichever rule is taken away, lists of moves end: for each moment there is a number that no list from there exceeds
+/// in length.
 #[tactic(auto, using(crate::proofs::ending::Ending::ending))]
 pub fn orders_end()
     ensures { OrdersEnd }

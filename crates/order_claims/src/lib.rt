@@ -1,4 +1,4 @@
-//! What lists of moves there are in the table without a rule, when one is wrong, and what holds of them all.
+//! The lists of moves in the table without a rule, when one is wrong, and what holds for all of them.
 #![tactic(auto)]
 
 pub mod laws;

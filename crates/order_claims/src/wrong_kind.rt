@@ -5,11 +5,12 @@
 pub enum WrongKind {
     /// It retires an instruction that the sequential machine does not retire next.
     Retired,
-    /// It ends the program otherwise than the sequential machine does.
+    /// It ends the program in another way than the sequential machine.
     Ended,
-    /// It has an instruction answered that is not the machine's next, or otherwise than the machine has it answered.
+    /// It has an instruction answered that is not the machine's next, or that gets a different answer from the
+    /// machine's.
     Output,
-    /// No move leads on, and the processor is at no place where it may rest.
+    /// No move leads on, and the processor is not at a place where it may rest.
     Stuck,
     /// The processor rests with other registers or memory than the machine, or fetch would go on elsewhere.
     Memory,

@@ -1,4 +1,4 @@
--- What the search of the graph answers, said of the trial.
+-- The answer of the search of the graph, in terms of the trial.
 use Rattle.std.proofs.Common.{◌≡◌, ℕ, ◌<◌, List, [], ◌∷◌, Option, Some, None, length, map, refl, sym, ap, subst, ◌∙◌}
 use Rattle.std.specs.List.{All, AllZip}
 use Rattle.std.proofs.lemmas.Option.{slice_get-get_or}
@@ -95,7 +95,7 @@ pub found_more : (t : OrderTrial) (bound : ℕ) (n : Node) → IsSoundTrial t �
     HasMore (edges_from t) (IsWrongEdge t) (IsWrongNode t) (key_of_node n) bound → HasMoreStates t bound
 found_more t bound n is e x = more_states t is bound (subst (λ (k : Node). HasMore (edges_from t) (IsWrongEdge t) (IsWrongNode t) (key_of_node k) bound) e x)
 
--- of the table itself none is wrong
+-- in the table itself no list is wrong
 pub not_wrong : (plan : Plan) (x : Machine) (most bound : ℕ) (away : Option Rule) (found : OrdersFound) → NoneIsWrong → IsAccepted plan →
     length x.hart.regs ≡ 32 →
     AreOrdersFound (record { away = away; plan = plan; machine = x; most = most }) bound found → away ≡ None → IsNotWrong found
@@ -154,7 +154,7 @@ numbered_moves r number list is s within a =
       moves = numbered_all t r.reached.nodes key list (moves_from t (node_of key)) is (s.known number [] within) a;
     }
 
--- the search begins at the start's key, in the memory as it was loaded
+-- the search begins at the key of the start, in the memory as it was loaded
 pub start_known : (t : OrderTrial) (away : Option Rule) (plan : Plan) (hart : Hart) (most : ℕ) (n : Node) (key : List ℕ) (mem loaded : Memory) →
     t ≡ trial_of away plan hart most →
     ((u : OrderTrial) → u.plan ≡ plan → u.machine ≡ machine_of hart → n ≡ first_node u) → hart.mem ≡ loaded → mem ≡ loaded → key ≡ key_of_node n →
@@ -164,7 +164,7 @@ start_known t away plan hart most n key mem loaded e from same again is_key whol
     let first = from t (ap (λ (u : OrderTrial). u.plan) e) (ap (λ (u : OrderTrial). u.machine) e) in
     (again ∙ sym same ∙ sym (ap memory_loaded e), start_key t n key first is_key whole)
 
--- and its answer is of the graph as it is left
+-- and its answer holds for the graph as it is left
 pub answers_left : (g h : OrderGraph) (n : Node) (key : List ℕ) (most : ℕ) (answer : SearchAnswer Move WrongKind) → h ≡ g → key ≡ key_of_node n →
     AnswersOf (IsNodeIn g.trial g.mem) (edges_from g.trial) (IsWrongEdge g.trial) (IsWrongNode g.trial) key most answer →
     AnswersOf (IsNodeIn h.trial h.mem) (edges_from h.trial) (IsWrongEdge h.trial) (IsWrongNode h.trial) (key_of_node n) most answer

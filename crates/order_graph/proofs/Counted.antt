@@ -1,4 +1,4 @@
--- The counts of a list of moves: what a meeting adds to them, and that each move is counted where it is made.
+-- The counts of a list of moves: what a meeting adds to them, and that each move is counted when it is made.
 use Rattle.std.proofs.Common.{◌≡◌, ℕ, ◌+◌, ◌-◌, ◌≤◌, ◌<◌, ◌^◌, List, [], ◌∷◌, ◌++◌, length, get_or, take, Option, Some, None, Bool, true, false, cond, not, refl, sym, ap, subst, ◌∙◌, arith}
 use Rattle.std.specs.Prelude.{◌&&◌, count_by, zero, suc}
 use Rattle.std.proofs.lemmas.List.{length-take}
@@ -34,7 +34,7 @@ cell_put [] (suc i) c d e = absurd (cc)
 cell_put (b ∷ cells) (suc zero) c d e = refl
 cell_put (b ∷ cells) (suc (suc i)) c d e = cell_put cells (suc i) c d e
 
--- a test of a meeting, by what is in its stage before and after it
+-- a test of a meeting, by the contents of its stage before and after it
 module _ (away : Option Rule) (s : State) (i : ℕ) where
   -- what the meeting leaves in its stage
   left_by : Option Cell → List Cell
@@ -61,11 +61,11 @@ module _ (away : Option Rule) (s : State) (i : ℕ) where
         go None e = ap (f None) e ∙ nothing
         go (Some c) e = both c c.passenger c.packet e refl refl
 
--- a result that is there before, and not after
+-- a result that is there before, but not after
 is_lost : Option Cell → Option Cell → Bool
 is_lost found left = has_packet found && not (has_packet left)
 
--- a live instruction that is dead after
+-- a live instruction that is dead afterwards
 is_dying : Option Cell → Option Cell → Bool
 is_dying found left = has_live found && has_dead left
 
@@ -93,7 +93,7 @@ unfolding moved_without is_dying left_by
 death_is away plan s i = tested away s i is_dying (λ p m. not p.dead && m.passenger.dead) refl (λ c. still_alive c.passenger)
     (λ c p k ep ek. ap (λ o. on o false (λ q. not q.dead) && (meeting_without away p k).passenger.dead) ep)
 
--- so a meeting is counted by its stage in two nodes
+-- so a meeting is counted by the contents of its stage in two nodes
 meeting_counts : (t : OrderTrial) (n next : Node) (i : ℕ) (k : OrderCounts) → next ≡ node_next t n (Meet i) →
     counts_between (cell_at n.situation.cells i) (cell_at next.situation.cells i) k ≡ counts_with t.away n.situation (Meet i) k
 unfolding counts_with next_without node_next is_lost is_dying
@@ -122,7 +122,7 @@ meeting_counted t n next mv i k after found left is made before behind counted =
     ∙ ap (λ (o : Option Cell). counts_between (cell_at n.situation.cells i) o k) behind
     ∙ meeting_counts t n next i k (made ∙ ap (node_next t n) is) ∙ ap (λ (m : Move). counts_with t.away n.situation m k) (sym is)
 
--- what is counted of a move does not depend on memory
+-- the counts of a move do not depend on memory
 meeting_bare : (test : Passenger → Met → Bool) (away : Option Rule) (s : State) (mv : Move) →
     is_meeting_that test away (without_memory s) mv ≡ is_meeting_that test away s mv
 meeting_bare test away s (Issue g) = refl
@@ -173,7 +173,7 @@ counted_behind t xs mv is =
         (let r : OrderCounts = record { meets = a; kills = b; dead = c } in r) ≡ (let r : OrderCounts = record { meets = x; kills = y; dead = z } in r)
     same_counts p q r = cc
 
--- no more is counted than moves
+-- no count is larger than the number of moves
 made_few : (test : State → Move → Bool) (away : Option Rule) (plan : Plan) (m : Moment) (xs : List Move) → count_made test away plan m xs ≤ length xs
 unfolding count_made
 made_few test away plan m [] = omega arith
@@ -207,7 +207,7 @@ counted_step t n moves i d before after is e k within made =
     ∙ counted_behind t (take i moves) (get_or moves i d) is
     ∙ ap (counts_of t) (sym (take_next moves i (get_or moves i d) (slice_get-get_or moves i d within)) ∙ ap (λ j. take j moves) one)
 
--- the moves before one of a list that fits into memory leave room for one more
+-- the moves before one in a list that fits into memory leave room for one more
 pub counts_room : (t : OrderTrial) (moves : List Move) (i : ℕ) (k : OrderCounts) → k ≡ counts_of t (take i moves) → i < 2 ^ 64 - 1 →
     AreCountsUpTo (2 ^ 64 - 2) k
 counts_room t moves i k e few = subst (AreCountsUpTo (2 ^ 64 - 2)) (sym e)

@@ -81,7 +81,7 @@ module _ (t : OrderTrial) (n : Node) (mv : Move) (mem : Memory) (next : Node) (i
       (subst (λ c. AreChangesOf (memory_loaded t) (state_reached t.away t.plan (state_of_node t n) mv).mem c) (sym changes_are)
       (changes_right t.away t.plan (memory_loaded t) (state_of_node t n) mv n.changes is.is_loaded (record { lists = node_changes t n is h; makes = refl }))))
 
--- what the judge says of the move, and of the state
+-- what the judge says about the move, and about the state
 pub fault_told : (t : OrderTrial) (n : Node) (mv : Move) (mem : Memory) (place : MachinePlace) (found : Option FailedTest) (told : Option WrongKind) →
     mem ≡ memory_after n.changes (memory_loaded t) → HasPlace t n.situation →
     ((x : Machine) → after (isa_of t.plan) t.machine (gained t.machine n.situation) ≡ Some x → IsPlaceOf (isa_of t.plan) (memory_loaded t) x place) →
@@ -106,7 +106,7 @@ state_told t n place moves found told is o h at judged e f =
     subst (TellsFault (IsWrongThere t n)) (sym f)
     (moment_told t.plan t.machine x (moves_from t n) (state_of_node t n) h.count found (judged_by_first x (moves_from t n) (state_of_node t n) found first))
 
--- one move more, which is not wrong
+-- one more move, which is not wrong
 order_more : (t : OrderTrial) (m : Moment) (issued : ℕ) (xs : List Move) (mv : Move) → IsOrder t.away t.plan t.most m issued xs →
     Contains (leads_on t (moment_after_without t.away t.plan m xs).state (issued + issues xs)) mv → IsOrder t.away t.plan t.most m issued (xs ++ mv ∷ [])
 unfolding IsOrder moment_after_without
@@ -139,7 +139,7 @@ next_right t n mv is h there none =
       is = ap (λ (k : Node). node_next t k mv) h.is ∙ sym (after_one t (first_node t) h.moves mv);
     }
 
--- the fault of going along the move: that of the move, or otherwise that of the next node
+-- the fault of making the move: that of the move, or otherwise that of the next node
 pub own_told : (t : OrderTrial) (n : Node) (mv : Move) (own : Option WrongKind) (kind : WrongKind) → own ≡ Some kind → TellsFault (IsWrongFrom t n mv) own →
     TellsFault (IsWrongAlong t n mv) (Some kind)
 own_told t n mv own kind e told = let same = subst (TellsFault (IsWrongFrom t n mv)) e told in inl same
@@ -172,7 +172,7 @@ key_told t n next mv None key is h there e told is_key whole =
     let right = next_right t n mv is h there (λ kind w. told kind (inl w)) in
     record { node = next; right = subst (IsRightNode t) (sym e) right; whole = whole; is = is_key }
 
--- so it is that of the edge
+-- so it is the fault of the edge
 module _ (t : OrderTrial) (n next : Node) (mv : Move) (key : List ℕ) (is : IsSoundTrial t) (h : IsRightNode t n) (there : Contains (moves_from t n) mv)
     (made : next ≡ node_next t n mv) (is_key : key ≡ key_of_node next) where
   read : (k : Node) → IsRightNode t k → node_of (key_of_node k) ≡ k
@@ -204,7 +204,7 @@ module _ (t : OrderTrial) (n next : Node) (mv : Move) (key : List ℕ) (is : IsS
   edge_told None told = λ kind w. told kind (fault_along kind w)
   edge_told (Some kind) told = edge_fault kind told
 
--- one edge more
+-- one more edge
 pub edges_more : (f : Move → EdgeView Move) (es : List (Edge Move WrongKind)) (e : Edge Move WrongKind) (ms : List Move) (i : ℕ) (m : Move) →
     map edge_view es ≡ map f (take i ms) → slice_get ms i ≡ Some m → edge_view e ≡ f m → map edge_view (es ++ e ∷ []) ≡ map f (take (suc i) ms)
 edges_more f es e ms i m so there same = map_more edge_view es e ∙ ap (λ (l : List (EdgeView Move)). l ++ edge_view e ∷ []) so
@@ -218,7 +218,7 @@ edges_more f es e ms i m so there same = map_more edge_view es e ∙ ap (λ (l :
       taken (x ∷ xs) zero y q = let k : x ≡ y = cc in ap (λ (z : Move). z ∷ []) k
       taken (x ∷ xs) (suc j) y q = ap (λ (l : List Move). x ∷ l) (taken xs j y q)
 
--- what holds of each edge, and of one more
+-- what holds for each edge, and for one more
 pub all_more : {A : Type 0} (P : A → Type 0) (xs : List A) (y : A) → All P xs → P y → All P (xs ++ y ∷ [])
 all_more P [] y all here zero d within = here
 all_more P [] y all here (suc k) d within = absurd (omega (arith, within))
@@ -226,7 +226,7 @@ all_more P (x ∷ xs) y all here zero d within = all 0 d (omega arith)
 all_more P (x ∷ xs) y all here (suc k) d within =
     all_more P xs y (λ j e inside. all (suc j) e (omega (arith, inside))) here k d (omega (arith, within))
 
--- the edges of a node are judged, and few
+-- the edges of a node are judged, and there are few of them
 pub all_judged : (t : OrderTrial) (key : List ℕ) (n : Node) (es : List (Edge Move WrongKind)) → IsSoundTrial t → IsOrderKey t key → n ≡ node_of key →
     All (IsJudged (HasEdgeFault (IsWrongEdge t) (IsWrongNode t) (key_of_node n))) es → All (IsJudged (HasEdgeFault (IsWrongEdge t) (IsWrongNode t) key)) es
 all_judged t key n es is h e all =
@@ -243,7 +243,7 @@ pub edges_of_key : (t : OrderTrial) (key : List ℕ) (n : Node) (es : List (Edge
 unfolding edges_from
 edges_of_key t key n es e so = so ∙ ap (λ (m : Node). map (edge_of t m) (moves_from t m)) e
 
--- one turn of the loop over the moves
+-- one iteration of the loop over the moves
 pub edges_grown : (f : Move → EdgeView Move) (es new : List (Edge Move WrongKind)) (e : Edge Move WrongKind) (ms : List Move) (i : ℕ) (d : Move) →
     new ≡ es ++ e ∷ [] →
     map edge_view es ≡ map f (take i ms) → i < length ms → edge_view e ≡ f (get_or ms i d) → map edge_view new ≡ map f (take (i + 1) ms)

@@ -1,4 +1,4 @@
--- What is known of a node that moves lead to.
+-- What is known about a node that moves lead to.
 use Rattle.std.proofs.Common.{◌≡◌, ℕ, ◌+◌, ◌<◌, ◌≤◌, ◌^◌, List, None, Bool, true, false, refl, sym, ap, subst, ◌∙◌, arith}
 use Rattle.std.specs.List.{Contains}
 use Rattle.std.specs.Prelude.{MatchBool}
@@ -27,7 +27,7 @@ use Rattle.order_graph.proofs.Nodes.{StandsFor, its_key}
 use Rattle.order_graph.proofs.Paths.{stands_at}
 use Rattle.order_graph.proofs.Places.{count_fits, place_after}
 
--- the moment that the node stands for, and how much was issued and has retired
+-- the moment that the node represents, how many instructions were issued, and how many have retired
 pub record NodeFacts (t : OrderTrial) (n : Node) : Type 0 where
   pub m : Moment
   pub issued : ℕ
@@ -56,7 +56,7 @@ pub node_memory : (t : OrderTrial) (n : Node) (mem : Memory) → IsSoundTrial t 
     AreChangesOf (memory_loaded t) mem n.changes
 node_memory t n mem is h e = record { lists = node_changes t n is h; makes = e }
 
--- how many more may be issued and may retire
+-- how many more instructions may be issued, and how many more may retire
 pub node_issues : (t : OrderTrial) (n : Node) → IsSoundTrial t → IsOrderNode t n → n.issues ≤ 64
 node_issues t n is h = let few = (order_facts t n is h).few in let most = is.few in omega arith
 

@@ -1,4 +1,4 @@
--- A list of moves is wrong where its path ends in a fault.
+-- A list of moves is wrong if and only if its path ends in a fault.
 use Rattle.std.proofs.Common.{◌≡◌, ℕ, List, [], ◌∷◌, Option, refl, sym, ap, subst, ◌∙◌, inl, inr}
 use Rattle.std.specs.Option.{option_to_list}
 use Rattle.rv_machine.specs.After.{after}
@@ -29,7 +29,7 @@ use Rattle.order_graph.proofs.Nodes.{StandsFor, its_key, its_state, next_stands}
 use Rattle.order_graph.proofs.Paths.{path_of}
 use Rattle.order_graph.proofs.Still.{goes_on}
 
--- an answer is the same where nothing is left of the input
+-- an answer is the same when nothing is left of the input
 rightly : (plan : Plan) (x : Machine) (m w : Moment) (p : Passenger) → m.state ≡ w.state → m.rest ≡ w.rest → IsServedRightly (isa_of plan) x m p →
     IsServedRightly (isa_of plan) x w p
 rightly plan x m w p e f r = record {
@@ -50,7 +50,7 @@ wrongly plan x m w e f h =
     } in
     subst (λ (s : State). IsServedWrongly plan x (record { state = s; rest = w.rest; output = w.output })) e moved
 
--- a move fails alike in two moments of one state, with nothing left of the input
+-- a move fails in the same way in two moments of one state, with nothing left of the input
 fails_alike : (away : Option Rule) (plan : Plan) (x : Machine) (m w : Moment) (mv : Move) (kind : WrongKind) → m.state ≡ w.state → m.rest ≡ w.rest →
     (next_without away plan m mv).state ≡ (next_without away plan w mv).state → FailsAs away plan x m mv kind → FailsAs away plan x w mv kind
 fails_alike away plan x m w mv kind e f g h = by kind h
@@ -77,7 +77,7 @@ fails_alike away plan x m w mv kind e f g h = by kind h
     by Stuck k = k
     by Memory k = k
 
--- and so it is wrong alike
+-- and so it is wrong in the same way
 alike : (t : OrderTrial) (m w : Moment) (mv : Move) (kind : WrongKind) → m.state ≡ w.state → m.rest ≡ [] → w.rest ≡ [] →
     IsWrongMove t.away t.plan t.machine m mv kind → IsWrongMove t.away t.plan t.machine w mv kind
 alike t m w mv kind e f g h =

@@ -1,4 +1,4 @@
--- The first move that leads on, and what is judged by it.
+-- The first move that leads on, and what is judged by means of it.
 use Rattle.std.proofs.Common.{◌≡◌, ℕ, zero, suc, ◌+◌, ◌<◌, ◌≤◌, List, [], ◌∷◌, Option, Some, None, Bool, true, false, length, get_or, take, refl, sym, ap, subst, ◌∙◌, arith, filter}
 use Rattle.std.specs.Prelude.{◌==◌, MatchOption}
 use Rattle.std.proofs.lemmas.Bool.Decides.{nat_tests}
@@ -16,7 +16,7 @@ use Rattle.order_judging.specs.FirstTests.{IsStateJudged}
 use Rattle.order_graph.specs.OrderTrial.{OrderTrial}
 use Rattle.order_graph.specs.KeyGraph.{leads_from, moves_from}
 
--- where none passes the test, none is left
+-- if none passes the test, none is left
 filtered : {A : Type 0} (passes : A → Bool) (xs : List A) (count : ℕ) → length xs ≤ count → ((k : ℕ) (d : A) → k < count → k < length xs →
     passes (get_or xs k d) ≡ false) → filter passes xs ≡ []
 filtered passes [] count past none = refl
@@ -25,7 +25,7 @@ filtered passes (x ∷ xs) (suc count) past none =
     rw (none 0 x (omega arith) (omega arith)) (filtered passes xs count (omega (arith, past))
     (λ k d early within. none (suc k) d (omega (arith, early)) (omega (arith, within))))
 
--- where one is the first to pass it, it is the first that is left
+-- if one is the first to pass the test, it is the first that is left
 found_first : {A : Type 0} (passes : A → Bool) (xs : List A) (at : ℕ) (d : A) → at < length xs → ((k : ℕ) (d : A) → k < at → k < length xs →
     passes (get_or xs k d) ≡ false) → passes (get_or xs at d) ≡ true → get_or xs at d ∷ [] ≡ take 1 (filter passes xs)
 found_first passes [] at d within none found = absurd (omega (arith, within))
@@ -68,7 +68,7 @@ pub listed : (found : Option Move) (list : List Move) → MatchOption found (lis
 listed None list h = h
 listed (Some m) list h = h
 
--- a state is stuck where no move leads on, which the first of them tells
+-- a state is stuck if no move leads on, and the first of them shows this
 stuck : (l : List Move) (s : State) → IsStuckWrongly (take 1 l) s → IsStuckWrongly l s
 stuck [] s h = h
 stuck (m ∷ l) s h = absurd (let e = h.none in cc)

@@ -1,4 +1,4 @@
--- The first of the tests that holds says in which way a move, or a moment, is wrong.
+-- The first of the tests that holds determines in which way a move, or a moment, is wrong.
 use Rattle.std.proofs.Common.{◌≡◌, List, [], ◌∷◌, Option, Some, None, refl, sym, subst}
 use Rattle.std.specs.Option.{option_to_list}
 use Rattle.rv_machine.specs.After.{after}

@@ -1,4 +1,4 @@
--- What holds of a move that leads on, and how many Issue moves a list has.
+-- What holds for a move that leads on, and how many Issue moves a list has.
 use Rattle.std.proofs.Common.{◌≡◌, ℕ, zero, suc, ◌+◌, ◌-◌, ◌*◌, ◌^◌, ◌<◌, ◌≤◌, List, [], ◌∷◌, length-append, map, Option, Some, None, Bool, true, false, cond, filter, length, get_or, refl, sym, ap, ◌∙◌, arith}
 use Rattle.std.specs.Prelude.{◌&&◌, ◌||◌, not, nat_lt}
 use Rattle.std.specs.List.{All, Contains}
@@ -31,7 +31,7 @@ passes test (y ∷ xs) x there = go (test y) refl there (passes test xs x) where
   go true e (k, within, is) later = here k within is e later
   go false e there later = later there
 
--- it is allowed, and Issue only while it may be made
+-- it is allowed, and it is Issue only if Issue may be made
 record MayBeMade (b : Option Bar) (may_issue issuing : Bool) : Type 0 where
   pub allowed : b ≡ None
   pub issue : issuing ≡ true → may_issue ≡ true
@@ -51,7 +51,7 @@ leads t s issued mv there = may_be (bar_without t.away t.plan s mv) (nat_lt issu
 pub is_allowed : (t : OrderTrial) (s : State) (issued : ℕ) (mv : Move) → Contains (leads_on t s issued) mv → bar_without t.away t.plan s mv ≡ None
 is_allowed t s issued mv there = (leads t s issued mv there).allowed
 
--- so no more are made than may be
+-- so no more Issue moves are made than permitted
 pub still_few : (t : OrderTrial) (s : State) (issued : ℕ) (mv : Move) → Contains (leads_on t s issued) mv → issued ≤ t.most → issued_with issued mv ≤ t.most
 still_few t s issued mv there few = go (is_issue mv) refl where
   go : (b : Bool) → is_issue mv ≡ b → issued + counts b 1 ≤ t.most

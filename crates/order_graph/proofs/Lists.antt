@@ -1,4 +1,4 @@
--- Lists that are mapped.
+-- Mapped lists.
 use Rattle.std.proofs.Common.{◌≡◌, ◌≢◌, ℕ, zero, suc, ◌+◌, ◌<◌, List, [], ◌∷◌, ◌++◌, Bool, cond, length, map, get_or, refl, sym, ap, ◌∙◌, arith}
 use Rattle.std.specs.Prelude.{sum_by, count_by}
 use Rattle.std.specs.List.{AllPairs, Contains, flat_map, fold}
@@ -8,7 +8,7 @@ use Rattle.order_search.specs.Routes.{is_none}
 pub contains_mapped : {A B : Type 0} (f : A → B) (xs : List A) (x : A) → Contains xs x → Contains (map f xs) (f x)
 contains_mapped f xs x (k, within, is) = (k, omega (arith, within, length-map xs f), get_or-map f xs k x (f x) within ∙ ap f is)
 
--- an element of the mapped list comes from one of the list
+-- an element of the mapped list comes from an element of the list
 pub record ComesFrom {A B : Type 0} (f : A → B) (xs : List A) (y : B) : Type 0 where
   pub from : A
   pub inside : Contains xs from
@@ -24,7 +24,7 @@ mapped_contains f (x ∷ xs) y (suc k, within, is) = further (mapped_contains f 
   further : ComesFrom f xs y → ComesFrom f (x ∷ xs) y
   further h = record { from = h.from; inside = more h.from h.inside; is = h.is }
 
--- where the map tells the elements apart, no two are the same
+-- if the map is injective on the elements, no two of its values are the same
 pub pairs_mapped : {A B : Type 0} (f : A → B) (xs : List A) → ((a b : A) → Contains xs a → Contains xs b → f a ≡ f b → a ≡ b) →
     AllPairs (λ a b. a ≢ b) xs → AllPairs (λ a b. a ≢ b) (map f xs)
 pairs_mapped {A} {B} f xs apart once i j d less within e = go xs apart once within e where

@@ -1,4 +1,4 @@
--- The node of a list of moves stands for the moment after it, whatever was written on the way.
+-- The node of a list of moves represents the moment after it, whatever was written on the way.
 use Rattle.std.proofs.Common.{◌≡◌, ℕ, [], false, refl, sym, ap, subst, ◌∙◌}
 use Rattle.mem_regions.specs.Memory.{Memory}
 use Rattle.cf_bind.specs.declared.moves.Move.{Move}
@@ -23,7 +23,7 @@ use Rattle.order_graph.specs.ChangesNext.{changes_next}
 use Rattle.order_graph.proofs.Changed.{changes_right}
 use Rattle.order_graph.proofs.Still.{goes_on}
 
--- the node is that of the moment, after so many Issue moves
+-- the node is that of the moment, after this many Issue moves
 pub record StandsFor (t : OrderTrial) (m : Moment) (issued : ℕ) (n : Node) : Type 0 where
   pub situation : n.situation ≡ without_memory m.state
   pub changes : AreChangesOf (memory_loaded t) m.state.mem n.changes
@@ -79,7 +79,7 @@ next_stands t m issued n mv is h =
       failed = g.failed ∙ h.failed;
     }
 
--- two nodes that stand for one state, after as many Issue moves, are the same
+-- two nodes that represent the same state, after equally many Issue moves, are the same
 pub stands_once : (t : OrderTrial) (m w : Moment) (issued : ℕ) (n k : Node) → IsSoundTrial t → StandsFor t m issued n → StandsFor t w issued k →
     m.state ≡ w.state → n ≡ k
 stands_once t m w issued n k is h g e =

@@ -1,4 +1,4 @@
--- The lists of moves of a trial are the paths of its graph, and are wrong where these end in a fault.
+-- The lists of moves of a trial are the paths of its graph, and are wrong if and only if these end in a fault.
 use Rattle.std.proofs.Common.{◌≡◌, ℕ, zero, suc, ◌+◌, List, [], ◌∷◌, Some, refl, sym, ap, subst, ◌∙◌, arith, map}
 use Rattle.std.specs.Prelude.{slice_get}
 use Rattle.std.specs.List.{Contains}
@@ -57,7 +57,7 @@ edges_are t m issued n h =
     ∙ ap (λ (s : State). map (edge_of t n) (leads_on t s n.issues)) (its_state t m issued n h)
     ∙ ap (λ (i : ℕ). map (edge_of t n) (leads_on t m.state i)) h.issues
 
--- an element of a list that is mapped
+-- an element of a mapped list
 pub get_mapped : {A B : Type 0} (f : A → B) (xs : List A) (i : ℕ) (x : A) → slice_get xs i ≡ Some x → slice_get (map f xs) i ≡ Some (f x)
 get_mapped f [] i x e = absurd (cc)
 get_mapped f (y ∷ xs) zero x e = let same : y ≡ x = cc in ap (λ z. Some (f z)) same

@@ -1,4 +1,4 @@
--- After moves of which none is wrong the machine is there after as many steps as instructions have retired.
+-- After moves of which none is wrong, the machine is there after as many steps as instructions have retired.
 use Rattle.std.proofs.Common.{◌≡◌, ◌≢◌, ℕ, zero, suc, ◌+◌, ◌<◌, ◌≤◌, List, [], ◌∷◌, Option, Some, None, true, length, refl, sym, ap, subst, ◌∙◌, arith, inl, inr, ◌⊎◌}
 use Rattle.std.specs.Prelude.{IsTrue, replicate}
 use Rattle.std.specs.Option.{option_to_list}

@@ -40,7 +40,7 @@ use Rattle.order_graph.proofs.Facts.{node_place}
 use Rattle.order_graph.proofs.Paths.{stands_at}
 use Rattle.order_graph.proofs.Wrongs.{EndsWrong, after_one, ends_wrong, some_moves}
 
--- its last move, by the count of its moves
+-- its last move, by the number of its moves
 module _ (t : OrderTrial) (bound : ℕ) (moves : List Move) (kind : WrongKind) (len count : ℕ) (x : IsFirstWrong t bound moves kind) (e : len ≡ length moves)
     (f : count ≡ len) where
   pub some_count : 1 ≤ count
@@ -84,7 +84,7 @@ retires_bare away plan s Leave = refl
 retires_bare away plan s ExitMove = refl
 retires_bare away plan s Serve = refl
 
--- the machine's next step has the line that is noted of it
+-- the machine's next step has the recorded line
 stops_silent : (isa : Isa) (x : Machine) (e : End) → step_here isa x ≡ Stops e → [] ≡ lines_at isa x
 unfolding step_at
 stops_silent isa x e s = by (step isa x) s where
@@ -140,7 +140,7 @@ shown t moves items i last here next before counts seen wanted place is h e f ma
           ∙ sym (ap (λ (o : Option Machine). on o [] (lines_at (isa_of t.plan))) count);
     }
 
--- as it is answered
+-- the same for the moves and the kind that are returned
 pub found_shown : (t : OrderTrial) (bound : ℕ) (moves items : List Move) (kind told : WrongKind) (reached : State) (counts : OrderCounts)
     (seen : Option Passenger) (wanted : Option Retired) →
     IsFirstWrong t bound moves kind → items ≡ moves → told ≡ kind → ShowsWrong t moves reached counts seen wanted →

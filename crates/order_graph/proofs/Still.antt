@@ -1,5 +1,5 @@
--- What the moves of the table without a rule keep: memory but for Access and Serve, the count of retired instructions but
--- for Leave; none fails; and nothing comes of an input of which nothing is left.
+-- What the moves of the table without a rule preserve: memory, except for Access and Serve, and the count of retired
+-- instructions, except for Leave. None fails; and no input that is used up becomes available again.
 use Rattle.std.proofs.Common.{◌≡◌, ℕ, zero, suc, ◌+◌, ◌-◌, List, [], ◌∷◌, Option, Some, None, Bool, true, false, cond, length, drop, refl, sym, subst, arith}
 use Rattle.std.specs.Prelude.{slice_get, ◌==◌, ◌||◌, min, not, if◌then◌else◌}
 use Rattle.std.specs.Option.{option_to_list}
@@ -40,7 +40,7 @@ pub record IsStill (s t : State) : Type 0 where
 still : (s : State) → IsStill s s
 still s = record { mem = refl; retired = refl; failed = refl }
 
--- what a choice leads to is still where both ways are
+-- the state that a choice leads to is still if it is in both cases
 chosen : {A : Type 0} (s : State) (o : Option A) (f : A → State) → ((a : A) → IsStill s (f a)) → IsStill s (on o s f)
 chosen s None f h = still s
 chosen s (Some a) f h = h a
@@ -66,7 +66,7 @@ recover_still : (away : Option Rule) (plan : Plan) (s : State) (i : ℕ) (c : Ce
 recover_still away plan s i c p = chosen s (siding_of plan (kind p)) _ (λ k. chosen s (last_op (siding_at s k)) _
     (λ op. record { mem = refl; retired = refl; failed = refl }))
 
--- the moves but Access, Leave and Serve
+-- the moves except Access, Leave and Serve
 issue_still : (plan : Plan) (s : State) (g : _) → IsStill s (moved plan s (Issue g))
 unfolding moved
 issue_still plan s g = chosen s (cell_at s.cells 1) _ (λ c. chosen s (running s.fetch) (issued plan s g c)
@@ -142,7 +142,7 @@ leaves_mem t p true o = refl
 leaves_mem t p false None = refl
 leaves_mem t p false (Some e) = refl
 
--- after Leave
+-- the state after Leave
 record IsLeft (s : State) (line : Option Line) (t : State) : Type 0 where
   pub mem : t.mem ≡ s.mem
   pub failed : t.failed ≡ s.failed
@@ -172,7 +172,7 @@ leave_left away plan s = go (cell_at s.cells plan.stages) where
   go None = nothing_left s
   go (Some c) = there c c.passenger
 
--- Access changes memory alone
+-- Access changes only memory
 record IsAccessed (s t : State) : Type 0 where
   pub retired : t.retired ≡ s.retired
   pub failed : t.failed ≡ s.failed
@@ -184,7 +184,7 @@ access_kept plan s = go (last_op (siding_at s (port plan))) where
   go None = record { retired = refl; failed = refl }
   go (Some op) = record { retired = refl; failed = refl }
 
--- what a call leaves of an input of which nothing is left
+-- what a call leaves of an input that is used up
 LeavesNone : Called → Type 0
 LeavesNone (called.Value a) = a.rest ≡ []
 LeavesNone (called.Exit status) = Unit {0}
@@ -232,7 +232,8 @@ serve_none i regs mem = go (synchronizes i) where
   go true = refl
   go false = call_none regs mem
 
--- a move leads to the same state whatever was written, where nothing is left of the input; and then nothing is left
+-- a move leads to the same state whatever was written, if nothing is left of the input; and then nothing is left
+-- afterwards
 pub record GoesOn (s : State) (line : Option Line) (x y : Moment) : Type 0 where
   pub state : x.state ≡ y.state
   pub rest : x.rest ≡ []

@@ -1,4 +1,4 @@
--- What a store of any bytes does to the changes.
+-- How a store of any bytes affects the changes.
 use Rattle.std.proofs.Common.{◌≡◌, ℕ, ◌+◌, ◌<◌, ◌≤◌, List, true, Option, Some, None, length, find, refl, ap, sym, ◌∙◌, arith, length-drop}
 use Rattle.std.specs.Prelude.{nat_lt, nat_le}
 use Rattle.std.specs.Option.{option_map}
@@ -16,7 +16,7 @@ use Rattle.mem_changes.specs.Steps.{rewritten}
 use Rattle.mem_changes.proofs.Written.{found_passes, writes-lies}
 use Rattle.mem_changes.proofs.Updated.{store_made, store_none, rewritten_lists}
 
--- a range that lies in a region that may be written has all its bytes there
+-- a range in a writable region has all its bytes there
 range_length : (m : Memory) (x n : ℕ) (olds : List ℕ) → writable_of m x n ≡ Some olds → length olds ≡ n
 unfolding writable_of
 range_length m x n olds e = go (find (writes_in x n) m.areas) refl e where
@@ -29,14 +29,14 @@ range_length m x n olds e = go (find (writes_in x n) m.areas) refl e where
       let bytes : bytes_in x n a ≡ olds = cc in
       ap length (sym bytes) ∙ simp (length-take, length-drop) (omega arith)
 
--- a store of some bytes, where they may be written
+-- a store of some bytes, where writing is permitted
 pub stored_changes : (m : Memory) (k : MemoryChanges) (x n : ℕ) (w olds : List ℕ) → IsAsLoaded m → AreChanges m k → length w ≡ n → 0 < n →
     writable_of m x n ≡ Some olds → AreChangesOf m (memory_with (memory_after k m) x n w) (record k { bytes = rewritten k.bytes x n w olds })
 stored_changes m k x n w olds is lists e some found =
     let f : length olds ≡ n = range_length m x n olds found in
     record { lists = rewritten_lists m k x n w olds is.apart lists e f found; makes = store_made m k x n w olds is.apart e f some found }
 
--- and where they may not
+-- and where it is not permitted
 pub unstored_changes : (m : Memory) (k : MemoryChanges) (x n : ℕ) (w : List ℕ) → AreChanges m k → writable_of m x n ≡ None →
     AreChangesOf m (memory_with (memory_after k m) x n w) k
 unstored_changes m k x n w lists none = record { lists = lists; makes = store_none m k x n w none }

@@ -1,4 +1,4 @@
--- What is answered of the graph of keys is so of the lists of moves and the states.
+-- What the search answers for the graph of keys holds for the lists of moves and the states.
 use Rattle.std.proofs.Common.{◌≡◌, ℕ, zero, suc, ◌<◌, List, [], ◌∷◌, Bool, length, get_or, map, refl, sym, ap, subst, ◌∙◌, arith}
 use Rattle.std.specs.Prelude.{if◌then◌else◌}
 use Rattle.std.specs.List.{AllPairs, Contains, flat_map}
@@ -36,12 +36,12 @@ state_of_key t moves is =
     ∙ ap (λ (i : ℕ). let r : IssuedState = record { state = (moment_after_without t.away t.plan (first_moment t) moves).state; issued = i } in r) h.issues
 
 module _ (t : OrderTrial) (is : IsSoundTrial t) where
-  -- a placed list of moves, as a path
+  -- a placed list of moves as a path
   path_placed : (places : List ℕ) (moves : List Move) → IsPlaced t places moves →
       IsEdgePath (edges_from t) (key_of_node (first_node t)) places (path_of t (first_node t) moves)
   path_placed places moves p = path_is t (first_moment t) 0 (first_node t) places moves is (first_stands t is) p
 
-  -- a list that is wrong, as a path that ends in a fault
+  -- a wrong list as a path that ends in a fault
   fault_placed : (places : List ℕ) (moves : List Move) (kind : WrongKind) → IsPlaced t places moves → IsWrongOrderOf t moves kind →
       EndsInFault (edges_from t) (IsWrongEdge t) (IsWrongNode t) (key_of_node (first_node t)) places (path_of t (first_node t) moves) kind
   fault_placed places moves kind p w = record {
@@ -49,12 +49,12 @@ module _ (t : OrderTrial) (is : IsSoundTrial t) where
     last = fault_of t (first_moment t) 0 (first_node t) moves kind is (first_stands t is) w.wrong;
   }
 
-  -- a path, as a list of moves
+  -- a path as a list of moves
   moves_of : (places : List ℕ) (path : List (EdgeView Move)) → IsEdgePath (edges_from t) (key_of_node (first_node t)) places path →
       IsPathOfMoves t (first_moment t) 0 (first_node t) places path
   moves_of places path p = moves_are t (first_moment t) 0 (first_node t) places path is (first_stands t is) p
 
-  -- a state that is reached is the one of a key that is
+  -- a state that is reached is the state of a key that is reached
   reached_key : (n : IssuedState) → IsReachedState t n → (key : List ℕ) × IsReachable (edges_from t) (key_of_node (first_node t)) key × (state_at t key ≡ n)
   reached_key n h =
       let somewhere = placed_of t (first_moment t) 0 h.moves h.allowed in (
@@ -94,7 +94,7 @@ module _ (t : OrderTrial) (is : IsSoundTrial t) where
         is = ap (state_at t) l.is_key ∙ state_of_key t l.moves is;
       }
 
-  -- two keys of one state are the same
+  -- two keys of the same state are the same
   told_apart : (a b : List ℕ) → IsReachable (edges_from t) (key_of_node (first_node t)) a → IsReachable (edges_from t) (key_of_node (first_node t)) b →
       state_at t a ≡ state_at t b → a ≡ b
   unfolding reached_by
@@ -172,7 +172,7 @@ module _ (t : OrderTrial) (is : IsSoundTrial t) where
           let somewhere = placed_of t (first_moment t) 0 list w.allowed in
           x.sound somewhere.places (path_of t (first_node t) list) kind (fault_placed somewhere.places list kind somewhere.placed w)
 
-  -- a key to which a path comes before each path to another: so do lists of moves, to their states
+  -- if a path to one key comes before each path to another, so do the lists of moves to their states
   before_of : (nodes : List (List ℕ)) (a b : List ℕ) → ((node : List ℕ) → Contains nodes node → IsReachable (edges_from t) (key_of_node (first_node t)) node) →
       Contains nodes b → HasEarlierPath (edges_from t) (key_of_node (first_node t)) a b → IsReachedBefore t (state_at t a) (state_at t b)
   before_of nodes a b reached inside h =
@@ -191,7 +191,7 @@ module _ (t : OrderTrial) (is : IsSoundTrial t) where
             h.before others (path_of t (first_node t) list) path (ends ∙ same);
       }
 
-  -- the numbers of the states are in the order in which these are first reached
+  -- the numbers of the states are in the order in which the states are first reached
   pub in_order : (bound : ℕ) (nodes : List (List ℕ)) (moves ends : ℕ) →
       IsCounted (edges_from t) (IsWrongEdge t) (IsWrongNode t) (key_of_node (first_node t)) bound nodes moves ends →
       AllPairs (IsReachedBefore t) (map (state_at t) nodes)
@@ -205,7 +205,7 @@ module _ (t : OrderTrial) (is : IsSoundTrial t) where
       (subst (IsReachedBefore t (state_at t a)) (sym (get_or-map (state_at t) nodes j [] d high))
       (before_of nodes a b x.reached inside (x.in_order i j [] order high)))
 
-  -- more states than were asked for
+  -- more states than the limit
   pub more_states : (bound : ℕ) → HasMore (edges_from t) (IsWrongEdge t) (IsWrongNode t) (key_of_node (first_node t)) bound → HasMoreStates t bound
   more_states bound x = record {
     nodes = map (state_at t) x.nodes;
@@ -235,7 +235,7 @@ module _ (t : OrderTrial) (is : IsSoundTrial t) where
       near_from : (n : IssuedState) → ComesFrom (state_at t) x.nodes n → IsReachedEarly t x.last n
       near_from n h = subst (IsReachedEarly t x.last) (sym h.is) (early h.from (x.near h.from h.inside))
 
-  -- the routes are the whole lists of moves
+  -- the routes are the complete lists of moves
   routes_are : (depth : ℕ) (m : Moment) (issued : ℕ) (n : Node) → StandsFor t m issued n →
       routes (edges_from t) depth (key_of_node n) ≡ whole_orders t depth m issued
   unfolding routes whole_orders

@@ -1,4 +1,4 @@
--- What a trial keeps beside its terms.
+-- What a trial stores in addition to its terms.
 use Rattle.std.proofs.Common.{◌≡◌, ℕ, zero, suc, ◌+◌, ◌-◌, ◌<◌, ◌≤◌, ◌^◌, List, [], ◌∷◌, Option, Some, length, refl, sym, ap, subst, ◌∙◌, arith, inl, inr, ◌⊎◌}
 use Rattle.std.specs.Prelude.{IsTrue, slice_get}
 use Rattle.mem_regions.specs.Memory.{Memory}
@@ -45,7 +45,7 @@ first_is isa loaded hart (place ∷ places) most retired a e f g =
     ∙ ap (λ (m : Memory). let h : Hart = record { pc = hart.pc; regs = hart.regs; mem = m; retired = retired } in h) (sym f)
     ∙ ap (λ (n : ℕ). let h : Hart = record { pc = hart.pc; regs = hart.regs; mem = hart.mem; retired = n } in h) g
 
--- what the parts of a trial say of it
+-- what the parts of a trial say about it
 abbrev pub terms_of : Option Rule → Plan → Memory → List MachinePlace → ℕ → ℕ → OrderTrial
 terms_of away plan loaded places most retired =
     record { away = away; plan = plan; machine = machine_of (first_hart places loaded retired); most = most }
@@ -64,7 +64,7 @@ sound_parts away plan loaded places moves most retired law ends p =
       ends = ends;
     }
 
--- the place of a count at which the machine is
+-- the place for a count at which the machine is
 pub place_inside : (away : Option Rule) (plan : Plan) (loaded : Memory) (places : List MachinePlace) (moves : List Move) (most retired : ℕ) (s : State) →
     AreTrialParts plan loaded places moves most retired → HasPlace (terms_of away plan loaded places most retired) s → s.retired - retired < length places
 place_inside away plan loaded places moves most retired s p h =

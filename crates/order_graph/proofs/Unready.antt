@@ -28,7 +28,7 @@ use Rattle.order_graph.specs.OrderTrial.{OrderTrial}
 use Rattle.order_graph.specs.KeyGraph.{leads_from, moves_from, state_of_node}
 use Rattle.order_graph.specs.ReadyStages.{meets_in_stage, is_ready}
 
--- a test that holds bars, and so does one behind other tests
+-- a test that holds bars, even after other tests
 hit : (test : Bool) (bar : Bar) (rest : Option Bar) → test ≡ true → is_some (first test bar rest) ≡ true
 hit true bar rest e = refl
 hit false bar rest e = absurd (cc)
@@ -37,7 +37,7 @@ behind : (test : Bool) (bar : Bar) (rest : Option Bar) → is_some rest ≡ true
 behind true bar rest h = refl
 behind false bar rest h = h
 
--- tests that hold where others do not
+-- tests that hold if others do not
 is_not : (a : Bool) → a ≡ false → not a ≡ true
 is_not true e = absurd (cc)
 is_not false e = refl
@@ -46,7 +46,7 @@ is_still : (a : Bool) → not a ≡ false → a ≡ true
 is_still true e = refl
 is_still false e = absurd (cc)
 
--- one of these tests holds behind another
+-- one of these tests holds, after another
 is_executed : (done unit : Bool) (a b : Bar) (rest : Option Bar) → (not done && unit) ≡ false → is_some (first done a (first (not unit) b rest)) ≡ true
 is_executed true unit a b rest e = refl
 is_executed false false a b rest e = refl
@@ -65,7 +65,7 @@ is_past true false e = absurd (cc)
 is_past false true e = refl
 is_past false false e = refl
 
--- a move of the instruction in a stage is barred where there is none, or where its row says so
+-- a move of the instruction in a stage is barred if there is none, or if its row says so
 of_stage : (cell : Option Cell) (test : Passenger → Bool) (f : Cell → Passenger → Option Bar) →
     ((c : Cell) (p : Passenger) → test p ≡ false → is_some (f c p) ≡ true) → on (on cell None (λ c. c.passenger)) false test ≡ false →
     is_some (on cell (Some NoSuchSite) (λ c. of_passenger c (f c))) ≡ true
@@ -77,7 +77,7 @@ of_stage (Some c) test f barred unready = one c.passenger (f c) (barred c) unrea
     one None g b u = refl
     one (Some p) g b u = b p u
 
--- so is one where there is no instruction
+-- it is barred if there is no instruction
 no_rider : (cell : Option Cell) (f : Cell → Passenger → Option Bar) → is_some (on cell None (λ c. c.passenger)) ≡ false →
     is_some (on cell (Some NoSuchSite) (λ c. of_passenger c (f c))) ≡ true
 no_rider None f unready = refl
@@ -175,7 +175,7 @@ row_barred away plan s mv.Exit unready = exit_barred away (cell_at s.cells 1) un
 row_barred away plan s mv.Serve unready = of_stage (cell_at s.cells plan.stages) (λ p. not p.done) _
     (λ c p u. behind _ _ _ (hit p.done _ _ (is_still p.done u))) unready
 
--- so is it where the program has ended
+-- it is barred if the program has ended
 pub barred_unready : (t : OrderTrial) (n : Node) (m : Move) → is_ready t.plan n.situation m ≡ false → leads_from t n m ≡ false
 unfolding bar_without
 barred_unready t n m unready =
@@ -184,7 +184,7 @@ barred_unready t n m unready =
     behind (is_some s.ending) Halted _ (behind s.failed Failed _ (row_barred t.away t.plan s m unready)) in
     rw barred refl
 
--- a filter takes in one item more where that passes, and none where it does not
+-- a filter takes one more item if that passes, and none if it does not
 one_more : {A : Type 0} (passes : A → Bool) (xs : List A) (i : ℕ) (d : A) → i < length xs → passes (get_or xs i d) ≡ true →
     filter passes (take (suc i) xs) ≡ filter passes (take i xs) ++ get_or xs i d ∷ []
 one_more passes [] i d within e = absurd (omega (arith, within))

@@ -49,7 +49,7 @@ put_many : (cells : List Cell) (j : ℕ) (c : Cell) → length (put_cell cells j
 put_many cells zero c = refl
 put_many cells (suc k) c = length-set cells k c
 
--- nothing is changed; one stage is, or two
+-- nothing is changed; one stage is, or two are
 nothing : (low high : ℕ) (s : State) → StaysOutside low high s s
 nothing low high s = record { as_many = refl; lower = refl; upper = refl; others = refl }
 
@@ -152,7 +152,7 @@ is_of_stages away plan loaded s Leave k i span e = absurd (cc)
 is_of_stages away plan loaded s Exit k i span e = absurd (cc)
 is_of_stages away plan loaded s Serve k i span e = absurd (cc)
 
--- so the next node differs in these stages alone
+-- so the next node differs only in these stages
 next_within : (t : OrderTrial) (n : Node) (m : Move) (span : StageSpan) → IsSoundTrial t → IsOrderNode t n → stages_of_move m ≡ Some span →
     DiffersWithin span.low span.high n (node_next t n m)
 unfolding node_next
@@ -172,7 +172,7 @@ next_within t n m span is h e =
       issues = k.issues;
     }
 
--- the stages of a move that is allowed are there
+-- the stages of an allowed move exist
 got_inside : (cells : List Cell) (k : ℕ) (c : Cell) → slice_get cells k ≡ Some c → k < length cells
 got_inside [] k c e = absurd (cc)
 got_inside (d ∷ cells) zero c e = omega arith
@@ -182,7 +182,7 @@ cell_inside : (cells : List Cell) (i : ℕ) (c : Cell) → cell_at cells i ≡ S
 cell_inside cells zero c e = omega arith
 cell_inside cells (suc k) c e = let more = got_inside cells k c e in omega (arith, more)
 
--- a test lets nothing through where what comes behind it bars
+-- a test lets nothing through if what follows it bars
 let_through : (test : Bool) (bar : Bar) (rest : Option Bar) → first test bar rest ≡ None → rest ≡ None
 let_through true bar rest e = absurd (cc)
 let_through false bar rest e = e
@@ -250,7 +250,7 @@ span_known t n m (Some span) is h there e =
       inside = row_inside t.away t.plan s m span row (sym e);
     }
 
--- the stages of a list are put back
+-- the stages of a list are restored
 pub put_again : (cells from new : List Cell) (low high : ℕ) → low ≤ high → high ≤ length from → take low cells ≡ take low from →
     drop high cells ≡ drop high from → new ≡ between low high from → put_mid low (high - low) cells new ≡ from
 put_again cells from new low high order inside lower upper is =

@@ -1,4 +1,4 @@
--- The first wrong list of moves, made again: none but the last of its moves is wrong.
+-- The first wrong list of moves, made again: only the last of its moves is wrong.
 use Rattle.std.proofs.Common.{◌≡◌, ℕ, zero, suc, ◌+◌, ◌<◌, List, [], ◌∷◌, ◌++◌, Some, length, get_or, take, drop, refl, sym, ap, subst, ◌∙◌, arith, inl, inr}
 use Rattle.std.specs.Prelude.{slice_get}
 use Rattle.std.specs.List.{Contains}
@@ -22,7 +22,7 @@ use Rattle.order_graph.specs.KeyGraph.{AreRightMoves, IsOrderNode, IsRightNode, 
 use Rattle.order_graph.proofs.Nodes.{StandsFor, its_state}
 use Rattle.order_graph.proofs.Paths.{order_of, stands_at}
 
--- the front of a list in which each move leads on, and the move behind it
+-- a prefix of a list in which each move leads on, and the move after it
 order_front : (t : OrderTrial) (m : Moment) (issued : ℕ) (xs ys : List Move) → IsOrder t.away t.plan t.most m issued (xs ++ ys) →
     IsOrder t.away t.plan t.most m issued xs
 unfolding IsOrder
@@ -40,7 +40,7 @@ leads_behind t m issued (x ∷ xs) mv ys o =
     subst (λ (i : ℕ). Contains (leads_on t (moment_after_without t.away t.plan (moment_next t m x) xs).state i) mv) same
     (leads_behind t (moment_next t m x) (issued_with issued x) xs mv ys o.1)
 
--- and its node
+-- and the node after it
 pub after_one : (t : OrderTrial) (n : Node) (xs : List Move) (mv : Move) → nodes_after t n (xs ++ mv ∷ []) ≡ node_next t (nodes_after t n xs) mv
 unfolding nodes_after
 after_one t n [] mv = refl
@@ -71,7 +71,7 @@ take_next [] i mv e = absurd (cc)
 take_next (x ∷ xs) zero mv e = let same : x ≡ mv = cc in ap (λ (y : Move). y ∷ []) same
 take_next (x ∷ xs) (suc i) mv e = ap (λ (l : List Move). x ∷ l) (take_next xs i mv e)
 
--- the loop over the moves: at each index its node stands, its move leads on from there, and leads to the next
+-- the loop over the moves: at each index its node is reached, and its move leads on from there to the next
 pub node_at_index : (t : OrderTrial) (moves : List Move) (i : ℕ) (mv : Move) → IsTrialOrder t moves → slice_get moves i ≡ Some mv →
     IsOrderNode t (nodes_after t (first_node t) (take i moves))
 node_at_index t moves i mv o e = front_node t (take i moves) (mv ∷ drop (suc i) moves) (subst (IsTrialOrder t) (split_at moves i mv e) o)

@@ -1,4 +1,4 @@
--- The changes of the memory after a move, where those before it are known, and nothing is left of the input.
+-- The changes of the memory after a move, given those before it, when nothing is left of the input.
 use Rattle.std.specs.Prelude.{◌==◌, ◌&&◌, ℕ, List, filter, if◌then◌else◌}
 use Rattle.mem_regions.specs.Access.{bounds_of, is_aligned}
 use Rattle.mem_regions.specs.Bytes.{le_bytes}
@@ -20,7 +20,7 @@ use Rattle.mem_changes.specs.Differing.{runs_at}
 use Rattle.mem_changes.specs.MemoryChanges.{MemoryChanges}
 use Rattle.mem_changes.specs.Steps.{rewritten}
 
--- after a store of the low bytes of a number, where it is permitted
+-- after a store of the low bytes of a number, if it is permitted
 abbrev pub changes_stored : Memory → ℕ → ℕ → ℕ → MemoryChanges → MemoryChanges
 changes_stored loaded addr width n k = if is_aligned addr width
     then on (writable_of loaded addr width) k (λ old. record k { bytes = rewritten k.bytes addr width (le_bytes width n) old })
@@ -32,7 +32,7 @@ changes_accessed loaded i a b k =
     let access = access_made i a b in
     if access.write then changes_stored loaded access.addr access.width access.value k else k
 
--- after the environment has answered an instruction: FENCE.I takes the bytes over into the code, and brk moves the break
+-- after the environment has answered an instruction: FENCE.I copies the bytes into the code, and brk moves the break
 abbrev pub changes_served : Memory → Instr → List ℕ → MemoryChanges → MemoryChanges
 changes_served loaded i regs k =
     if synchronizes i then record k { code = filter (λ c. runs_at (bounds_of loaded) c.addr) k.bytes } else

@@ -35,7 +35,7 @@ pub record AreCountsUpTo (most : ℕ) (k : OrderCounts) : Type 0 where
   pub kills : k.kills ≤ most
   pub dead : k.dead ≤ most
 
--- the stage has a result; a live instruction; a dead one
+-- the stage has a result; a live instruction; a dead instruction
 abbrev pub has_packet : Option Cell → Bool
 has_packet None = false
 has_packet (Some c) = is_some c.packet
@@ -48,7 +48,7 @@ abbrev pub has_dead : Option Cell → Bool
 has_dead None = false
 has_dead (Some c) = on c.passenger false (λ p. p.dead)
 
--- with a meeting that finds and leaves this in its stage
+-- with a meeting, given the contents of its stage before and after it
 abbrev pub counts_between : Option Cell → Option Cell → OrderCounts → OrderCounts
 counts_between found left k = record {
   meets = k.meets + 1;

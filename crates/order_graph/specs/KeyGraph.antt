@@ -43,7 +43,7 @@ node_next t n mv = record {
   issues = issued_with n.issues mv;
 }
 
--- the node of the start, and the one after some moves from a node
+-- the node of the start, and the node after some moves from a node
 unfoldable pub first_node : OrderTrial → Node
 first_node t = record {
   situation = without_memory (opened t.plan t.machine);
@@ -69,11 +69,11 @@ IsWrongFrom t n mv kind = IsWrongMove t.away t.plan t.machine (lone_moment (stat
 abbrev pub IsWrongThere : OrderTrial → Node → WrongKind → Type 0
 IsWrongThere t n kind = IsWrongMoment t.plan t.machine (moves_from t n) (lone_moment (state_of_node t n)) kind
 
--- going along the move is wrong in this way: the move is, or otherwise the node that it leads to
+-- making the move is wrong in this way: the move is, or otherwise the node that it leads to
 abbrev pub IsWrongAlong : OrderTrial → Node → Move → WrongKind → Type 0
 IsWrongAlong t n mv kind = IsWrongFrom t n mv kind ⊎ (((other : WrongKind) → IsWrongFrom t n mv other → ⊥) × IsWrongThere t (node_next t n mv) kind)
 
--- the same of an edge, and of a key
+-- the same for an edge, and for a key
 abbrev pub IsWrongEdge : OrderTrial → List ℕ → EdgeView Move → WrongKind → Type 0
 IsWrongEdge t key e kind = IsWrongFrom t (node_of key) e.label kind
 
@@ -92,7 +92,7 @@ pub record IsOrderNode (t : OrderTrial) (n : Node) : Type 0 where
   pub allowed : IsTrialOrder t moves
   pub is : n ≡ nodes_after t (first_node t) moves
 
--- moves that lead on, and of which none is wrong, lead to the node
+-- moves that lead on, none of which is wrong, lead to the node
 pub record IsRightNode (t : OrderTrial) (n : Node) : Type 0 where
   pub moves : List Move
   pub allowed : IsTrialOrder t moves

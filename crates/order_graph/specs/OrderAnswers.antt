@@ -1,4 +1,4 @@
--- What a search of all orders answers.
+-- The answer of a search of all orders.
 use Rattle.std.specs.Prelude.{◌≡◌, ℕ, List, length, map, Option, Some, slice_get}
 use Rattle.std.specs.List.{All, AllPairs, AllZip}
 use Rattle.rv_machine.specs.Hart.{Hart}
@@ -27,7 +27,7 @@ trial_of away plan hart most = record { away = away; plan = plan; machine = mach
 abbrev pub states_of : OrdersReached → List IssuedState
 states_of r = map (state_at r.graph.trial) r.reached.nodes
 
--- what was reached is a graph of the trial's states, in whose memory the search is done
+-- what was reached is a graph of the trial's states, and the search uses the trial's memory
 pub record IsSearched (r : OrdersReached) : Type 0 where
   pub loaded : r.graph.mem ≡ memory_loaded r.graph.trial
   pub as_many : length r.reached.rows ≡ length r.reached.nodes
@@ -63,7 +63,7 @@ AreOrdersFound t bound (Wrong w) = IsFirstWrong t bound w.moves.items w.kind × 
 AreOrdersFound t bound (Reached r) = IsCountOf t bound r
 AreOrdersFound t bound TooMany = HasMoreStates t bound
 
--- the answer is not that a list of moves is wrong
+-- the answer is anything but a wrong list of moves
 abbrev pub IsNotWrong : OrdersFound → Type 0
 IsNotWrong (Wrong w) = ⊥
 IsNotWrong (Reached r) = Unit {0}

@@ -1,4 +1,4 @@
--- The counts of a list of moves, as the report of a run has them: meetings, results that were killed, and live
+-- The counts of a list of moves that the report of a run contains: meetings, results that were killed, and live
 -- instructions that died.
 use Rattle.std.specs.Prelude.{ℕ, ◌+◌, List, [], ◌∷◌, Bool, true, false, ◌&&◌, not, Option, if◌then◌else◌}
 use Rattle.cf_layout.specs.Layout.{Plan}
@@ -16,20 +16,20 @@ abbrev pub is_meeting : Move → Bool
 is_meeting (Meet i) = true
 is_meeting mv = false
 
--- the move is a meeting, and the test holds of its instruction before it and of what it leaves
+-- the move is a meeting, and the test holds for its instruction before it and for what it leaves
 abbrev pub is_meeting_that : (Passenger → Met → Bool) → Option Rule → State → Move → Bool
 is_meeting_that test away s (Meet i) = on (cell_at s.cells i) false (λ c. on c.passenger false (λ p. on c.packet false
     (λ k. test p (meeting_without away p k))))
 is_meeting_that test away s mv = false
 
--- the move kills a result; a live instruction dies of it
+-- the move kills a result; a live instruction dies in it
 abbrev pub is_kill : Option Rule → State → Move → Bool
 is_kill away s mv = is_meeting_that (λ p met. not (is_some met.packet)) away s mv
 
 abbrev pub is_death : Option Rule → State → Move → Bool
 is_death away s mv = is_meeting_that (λ p met. not p.dead && met.passenger.dead) away s mv
 
--- how many of the moves, made one after another, pass the test in the state where each is made
+-- how many of the moves, made one after another, pass the test in the state in which they are made
 unfoldable pub count_made : (State → Move → Bool) → Option Rule → Plan → Moment → List Move → ℕ
 count_made test away plan m [] = 0
 count_made test away plan m (mv ∷ moves) =

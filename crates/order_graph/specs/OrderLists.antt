@@ -1,4 +1,5 @@
--- Lists of moves in the order of a search: each move has a place among those that lead on from where it is made.
+-- Lists of moves in the order of a search: each move has a place among those that lead on from the state in which it is
+-- made.
 use Rattle.std.specs.Prelude.{◌≡◌, ℕ, zero, suc, List, [], ◌∷◌, Some, slice_get, length, ◌≤◌, if◌then◌else◌}
 use Rattle.std.specs.List.{Contains, flat_map}
 use Rattle.cf_bind.specs.declared.moves.Move.{Move}
@@ -9,7 +10,7 @@ use Rattle.order_search.specs.Routes.{is_none, each_behind}
 use Rattle.order_search.specs.SearchOrder.{Precedes, IsNotAfter}
 use Rattle.order_graph.specs.OrderTrial.{OrderTrial, IssuedState, first_moment, leads_on, moment_next, IsTrialOrder, IsWrongOrderOf, reached_by}
 
--- each move of the list leads on from where it is made, and has this place among those that do
+-- each move of the list leads on from the state in which it is made, and has this place among those that do
 unfoldable pub IsPlacedFrom : OrderTrial → Moment → ℕ → List ℕ → List Move → Type 0
 IsPlacedFrom t m issued [] [] = Unit {0}
 IsPlacedFrom t m issued [] (mv ∷ moves) = ⊥
@@ -21,7 +22,7 @@ IsPlacedFrom t m issued (place ∷ places) (mv ∷ moves) =
 abbrev pub IsPlaced : OrderTrial → List ℕ → List Move → Type 0
 IsPlaced t places moves = IsPlacedFrom t (first_moment t) 0 places moves
 
--- the list is wrong in this way, and none that is comes before it: none is shorter, and of those as long none takes an
+-- the list is wrong in this way, and no wrong list comes before it: none is shorter, and no equally long one takes an
 -- earlier place where the two first differ. The lists before it lead to at most `bound` states
 pub record IsFirstWrong (t : OrderTrial) (bound : ℕ) (moves : List Move) (kind : WrongKind) : Type 0 where
   pub places : List ℕ
@@ -38,7 +39,7 @@ pub record IsReachedState (t : OrderTrial) (n : IssuedState) : Type 0 where
   pub allowed : IsTrialOrder t moves
   pub is : n ≡ reached_by t moves
 
--- a list of moves that leads to the one state comes before each list that leads to the other
+-- a list of moves that leads to the first state comes before each list that leads to the second
 pub record IsReachedBefore (t : OrderTrial) (earlier later : IssuedState) : Type 0 where
   pub places : List ℕ
   pub moves : List Move
@@ -54,7 +55,7 @@ pub record IsReachedEarly (t : OrderTrial) (last : List ℕ) (n : IssuedState) :
   pub early : IsNotAfter places last
   pub is : n ≡ reached_by t moves
 
--- the lists of at most `depth` moves from a moment to where none leads on
+-- the lists of at most `depth` moves from a moment to one from which none leads on
 unfoldable pub whole_orders : OrderTrial → ℕ → Moment → ℕ → List (List Move)
 whole_orders t zero m issued = if is_none (leads_on t m.state issued) then [] ∷ [] else []
 whole_orders t (suc depth) m issued = if is_none (leads_on t m.state issued) then [] ∷ []

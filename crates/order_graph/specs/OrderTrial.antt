@@ -1,4 +1,4 @@
--- What is searched: all lists of moves from the start, in the table without a rule, with at most so many Issue moves.
+-- What is searched: all lists of moves from the start, in the table without a rule, with at most this many Issue moves.
 use Rattle.std.specs.Prelude.{ℕ, List, Option}
 use Rattle.rv_machine.specs.Machine.{Machine}
 use Rattle.cf_layout.specs.Layout.{Plan}
@@ -12,18 +12,19 @@ use Rattle.order_claims.specs.declared.wrong_kind.WrongKind.{WrongKind}
 use Rattle.order_claims.specs.MoveLists.{moves_on, moment_after_without, IsOrder}
 use Rattle.order_claims.specs.WrongLists.{IsWrongOrder}
 
--- the rule that is taken away, if any; the layout; the sequential machine where it starts; and the most Issue moves
+-- the rule that is taken away, if any; the layout; the sequential machine at its start; and the maximum number of Issue
+-- moves
 pub record OrderTrial : Type 0 where
   pub away : Option Rule
   pub plan : Plan
   pub machine : Machine
   pub most : ℕ
 
--- where all lists of moves begin
+-- the moment at which all lists of moves begin
 abbrev pub first_moment : OrderTrial → Moment
 first_moment t = start t.plan t.machine
 
--- the moves that lead on from a state, after so many Issue moves
+-- the moves that lead on from a state, after this many Issue moves
 abbrev pub leads_on : OrderTrial → State → ℕ → List Move
 leads_on t s issued = moves_on t.away t.plan t.most s issued
 
@@ -31,7 +32,7 @@ leads_on t s issued = moves_on t.away t.plan t.most s issued
 abbrev pub moment_next : OrderTrial → Moment → Move → Moment
 moment_next t m mv = next_without t.away t.plan m mv
 
--- each move of the list leads on from where it is made
+-- each move of the list leads on from the state in which it is made
 abbrev pub IsTrialOrder : OrderTrial → List Move → Type 0
 IsTrialOrder t moves = IsOrder t.away t.plan t.most (first_moment t) 0 moves
 

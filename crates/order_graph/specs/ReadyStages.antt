@@ -1,4 +1,4 @@
--- What the stages of a move must hold for the move to be allowed. It follows from the rows of the table, and says less.
+-- What the stages of a move must hold for the move to be allowed. It follows from the rows of the table, and is weaker.
 use Rattle.std.specs.Prelude.{ℕ, ◌+◌, ◌-◌, ◌==◌, Option, None, Bool, true, false, ◌&&◌, not, length, slice_get}
 use Rattle.cf_layout.specs.Layout.{Plan, unit_at}
 use Rattle.cf_bind.specs.declared.cell.Cell.{Cell}
@@ -16,11 +16,11 @@ use Rattle.order_graph.specs.CountsMade.{has_packet}
 abbrev pub passenger_in_stage : State → ℕ → Option Passenger
 passenger_in_stage s i = on (cell_at s.cells i) None (λ c. c.passenger)
 
--- an instruction and a result are in the stage that have not met
+-- the stage has an instruction and a result that have not met
 abbrev pub meets_in_stage : Option Cell → Bool
 meets_in_stage cell = on cell false (λ c. is_some c.passenger && is_some c.packet && not c.met)
 
--- there is an instruction that is still to be executed, and a unit of the stage executes it
+-- there is an instruction that is still to be executed, and a unit of the stage can execute it
 abbrev pub is_computed : Plan → Option Passenger → ℕ → Bool
 is_computed plan passenger i = on passenger false (λ p. not p.done && unit_at plan (kind p) i)
 
@@ -28,7 +28,7 @@ is_computed plan passenger i = on passenger false (λ p. not p.done && unit_at p
 abbrev pub is_owing : Option Passenger → Bool
 is_owing passenger = on passenger false (λ p. is_some p.owes)
 
--- there is one that is still to be sent to a siding, and the stage is where that is done
+-- there is one that is still to be sent to a siding, and this is done at this stage
 abbrev pub is_launched : Plan → Option Passenger → ℕ → Bool
 is_launched plan passenger i = on passenger false (λ p. not p.done && not p.launched && launches plan (kind p) i)
 

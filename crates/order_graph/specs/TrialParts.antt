@@ -1,4 +1,4 @@
--- What a trial keeps beside its terms.
+-- What a trial stores in addition to its terms.
 use Rattle.std.specs.Prelude.{◌≡◌, ℕ, ◌+◌, ◌≤◌, ◌<◌, ◌^◌, List, [], ◌∷◌, Some, length, IsTrue, ◌⊎◌}
 use Rattle.mem_regions.specs.Memory.{Memory}
 use Rattle.rv_machine.specs.After.{after}
@@ -24,7 +24,7 @@ abbrev pub first_regs : List MachinePlace → List ℕ
 first_regs [] = []
 first_regs (place ∷ places) = place.regs
 
--- the hart there, in this memory, where so many instructions have retired
+-- the hart there, in this memory, where this many instructions have retired
 abbrev pub first_hart : List MachinePlace → Memory → ℕ → Hart
 first_hart places mem retired = record { pc = first_pc places; regs = first_regs places; mem = mem; retired = retired }
 
@@ -38,8 +38,9 @@ pub record AreTrialParts (plan : Plan) (loaded : Memory) (places : List MachineP
   pub few : most ≤ 64
   pub room : retired + most + 1 < 2 ^ 64
 
--- the machine starts in a memory as it was loaded, with nothing left of its input, and its count of retired instructions has
--- room; the moves of the layout can be counted; no more retire than are issued; and lists of moves end
+-- the machine starts in a memory as it was loaded, with nothing left of its input, and its count of retired
+-- instructions cannot overflow; the moves of the layout can be counted; no more instructions retire than are issued;
+-- and lists of moves end
 pub record IsSoundTrial (t : OrderTrial) : Type 0 where
   pub is_loaded : IsAsLoaded t.machine.hart.mem
   pub rest : t.machine.rest ≡ []

@@ -15,12 +15,12 @@ use Rattle.order_graph.specs.declared.found.OrderCounts.{OrderCounts}
 use Rattle.order_graph.specs.OrderCounts.{is_meeting, is_kill, is_death, count_made}
 use Rattle.order_graph.specs.OrderTrial.{OrderTrial, first_moment, reached_by}
 
--- the lines of the machine's next step, where as many instructions have retired as in this state
+-- the lines of the machine's next step, after as many steps as instructions have retired in this state
 abbrev pub lines_wanted : OrderTrial → State → List Line
 lines_wanted t s = on (after (isa_of t.plan) t.machine (gained t.machine s)) [] (lines_at (isa_of t.plan))
 
--- the state that the list leads to, all but its memory; what is counted of its moves; the line that its last move retires,
--- if it does; and the line of the machine's next step before that move, where it goes on
+-- the state that the list leads to, without its memory; the counts of its moves; the line that its last move retires,
+-- if it retires one; and the line of the machine's next step before that move, if that step does not end the program
 pub record ShowsWrong (t : OrderTrial) (moves : List Move) (reached : State) (counts : OrderCounts) (seen : Option Passenger)
     (wanted : Option Retired) : Type 0 where
   pub before : List Move

@@ -18,7 +18,7 @@ pub(crate) fn copy(alloc: Global, node: &Node) -> Result<Node, AllocError>
     })
 }
 
-/// Makes a list that of these items, in the memory that it has, where this is enough.
+/// Copies these items into the list, in the memory that it has if this is enough.
 fn copy_items<T: Copy + Drop>(items: &[T], list: &mut Vec<T>) -> Result<(), AllocError>
     ensures { OnOk result (list.new.items ≡ items.now) }
 {
@@ -26,7 +26,7 @@ fn copy_items<T: Copy + Drop>(items: &[T], list: &mut Vec<T>) -> Result<(), Allo
     list.extend_from_slice(items)
 }
 
-/// The same of sidings.
+/// The same for sidings.
 fn copy_sidings(
     alloc: Global,
     sidings: &[SidingOps],
@@ -41,7 +41,7 @@ fn copy_sidings(
     Ok(())
 }
 
-/// The same of a state.
+/// The same for a state.
 fn copy_situation(alloc: Global, from: &Situation, to: &mut Situation) -> Result<(), AllocError>
     ensures { OnOk result (to.new ≡ from.now) }
 {
@@ -56,7 +56,7 @@ fn copy_situation(alloc: Global, from: &Situation, to: &mut Situation) -> Result
     Ok(())
 }
 
-/// The same of changes.
+/// The same for changes.
 fn copy_changes(from: &Changes, to: &mut Changes) -> Result<(), AllocError>
     ensures { OnOk result (to.new ≡ from.now) }
 {

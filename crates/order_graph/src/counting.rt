@@ -50,7 +50,7 @@ fn has_dead(cell: Option<Cell>) -> bool
     }
 }
 
-/// A count, with one more where this is so.
+/// A count, plus one if this holds.
 fn plus(count: u64, more: bool) -> u64
     requires { count + 1 < 2 ^ 64 }
     ensures { result ≡ count + (if more then 1 else 0) }
@@ -70,7 +70,7 @@ impl OrderCounts {
         }
     }
 
-    /// With a meeting that finds and leaves this in its stage.
+    /// The counts with one more meeting, given the contents of its stage before and after it.
     fn with_meeting(self, found: Option<Cell>, left: Option<Cell>) -> OrderCounts
         requires { AreCountsUpTo (2 ^ 64 - 2) self }
         ensures { result ≡ counts_between found left self }
@@ -82,7 +82,7 @@ impl OrderCounts {
         }
     }
 
-    /// With a move that leads from one node to the next.
+    /// The counts with one more move, which leads from one node to the next.
     #[tactic(auto, unfolding(crate::specs::CountsMade::counts_with))]
     pub(crate) fn with(self, trial: &Trial, node: &Node, m: Move, next: &Node) -> OrderCounts
         requires next { next.now ≡ node_next trial.now node.now m }

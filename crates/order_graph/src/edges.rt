@@ -30,7 +30,7 @@ use order_model::Situation;
 use order_search::Edge;
 use std::alloc::{AllocError, Global};
 
-/// How many Issue moves were made once this move is.
+/// The number of Issue moves after this move.
 fn issues_with(issues: u8, m: Move) -> u8
     requires { issues ≤ 64 }
     ensures { result ≡ issued_with issues m }
@@ -41,7 +41,7 @@ fn issues_with(issues: u8, m: Move) -> u8
     }
 }
 
-/// A state is seen without a memory, and without a fault.
+/// A state is considered without a memory, and without a fault.
 #[inline(always)]
 pub(crate) fn note_bare(situation: &Situation)
     ensures { without_memory situation.now ≡ situation.now }
@@ -49,8 +49,8 @@ pub(crate) fn note_bare(situation: &Situation)
     let _ = situation.lane.len();
 }
 
-/// Makes the next node, which is the same as the node, the one to which the move leads; the memory, which was the node's, is that
-/// one's.
+/// Makes the move in `next`, which is the same as `node` before; the memory changes from that of the node to that of
+/// the next one.
 fn step_into(
     alloc: Global,
     trial: &Trial,
@@ -81,7 +81,7 @@ fn step_into(
     Ok(())
 }
 
-/// The node to which the move leads; the memory, which was the node's, is that one's.
+/// The node to which the move leads; the memory changes from that of the node to that of the next one.
 pub(crate) fn step(
     alloc: Global,
     trial: &Trial,
@@ -113,7 +113,7 @@ fn kind_of(test: FailedTest) -> WrongKind
     }
 }
 
-/// The same, where a test fails.
+/// The same for the test that fails, if one does.
 fn told(found: Option<FailedTest>) -> Option<WrongKind>
     ensures { result ≡ wrong_kind_told found }
 {
@@ -123,7 +123,7 @@ fn told(found: Option<FailedTest>) -> Option<WrongKind>
     }
 }
 
-/// In what the move from a node to the next is wrong, if it is; the memory is the node's, and is left as it is.
+/// What is wrong with the move from a node to the next, if anything is; the memory is the node's, and is left as it is.
 fn fault_of_move(
     alloc: Global,
     trial: &Trial,
@@ -164,7 +164,7 @@ fn is_issue(m: Move) -> bool
     matches!(m, Move::Issue(_))
 }
 
-/// Whether no row of the table bars the move in a node, in whose memory this is.
+/// Whether no row of the table bars the move in a node with this memory.
 fn is_allowed(trial: &Trial, mem: &Regions, node: &Node, m: Move) -> bool
     requires { mem.now ≡ memory_after node.now.changes (memory_loaded trial.now) }
     ensures { result ≡ not (is_some (bar_without trial.now.away trial.now.plan (state_of_node trial.now node.now) m)) }
@@ -174,7 +174,7 @@ fn is_allowed(trial: &Trial, mem: &Regions, node: &Node, m: Move) -> bool
         .is_none()
 }
 
-/// Whether the move leads on from a node, in whose memory this is. What their stages hold rules out most moves.
+/// Whether the move leads on from a node with this memory. The contents of its stages rule out most moves.
 #[inline(always)]
 #[tactic(auto, using(crate::proofs::Unready::barred_unready))]
 fn leads_on(trial: &Trial, mem: &Regions, node: &Node, m: Move) -> bool
@@ -186,7 +186,7 @@ fn leads_on(trial: &Trial, mem: &Regions, node: &Node, m: Move) -> bool
         && is_allowed(trial, mem, node, m)
 }
 
-/// The first of the moves that lead on from a node, in whose memory this is.
+/// The first of the moves that lead on from a node with this memory.
 #[tactic(auto, using(crate::proofs::Firsts::firsts))]
 fn first_move(trial: &Trial, mem: &Regions, node: &Node) -> Option<Move>
     requires { mem.now ≡ memory_after node.now.changes (memory_loaded trial.now) }
@@ -201,7 +201,7 @@ fn first_move(trial: &Trial, mem: &Regions, node: &Node) -> Option<Move>
     None
 }
 
-/// In what the state of a node is wrong, if it is; the memory is the node's.
+/// What is wrong with the state of a node, if anything is; the memory is the node's.
 fn fault_of(trial: &Trial, mem: &Regions, node: &Node) -> Option<WrongKind>
     requires node { IsRightNode trial.now node.now }
     requires memory { mem.now ≡ memory_after node.now.changes (memory_loaded trial.now) }
@@ -219,7 +219,7 @@ fn fault_of(trial: &Trial, mem: &Regions, node: &Node) -> Option<WrongKind>
     told(found)
 }
 
-/// In what the state of a node is wrong, if it is; the memory is that of the node before, and is left as it is.
+/// What is wrong with the state of a node, if anything is; the memory is that of the node before, and is left as it is.
 fn fault_there(trial: &Trial, mem: &mut Regions, before: &Node, node: &Node) -> Option<WrongKind>
     requires before { IsRightNode trial.now before.now }
     requires node { IsRightNode trial.now node.now }
@@ -234,8 +234,8 @@ fn fault_there(trial: &Trial, mem: &mut Regions, before: &Node, node: &Node) -> 
     fault
 }
 
-/// In what the move from a node to the next is wrong, or otherwise the next node, if one is; the memory is that of the node
-/// before, and is left as it is.
+/// What is wrong with the move from a node to the next, or otherwise with the next node, if anything is; the memory is
+/// that of the node before, and is left as it is.
 #[tactic(auto, using(crate::proofs::EdgeFacts::along))]
 fn fault_along(
     alloc: Global,
@@ -259,8 +259,8 @@ fn fault_along(
     }
 }
 
-/// The edge of a move from a node, whose memory this is, and which is left as it is; the move is made in the next node, which is the
-/// same as the node, and is so again afterwards.
+/// The edge of a move from a node with this memory, which is left as it is. The move is made in the next node, which is
+/// the same as the node, and is so again afterwards.
 fn edge(
     alloc: Global,
     trial: &Trial,
@@ -296,7 +296,7 @@ fn edge(
     })
 }
 
-/// Makes moves those that lead on from a node, in whose memory this is.
+/// Replaces the moves in the list by those that lead on from a node with this memory.
 #[tactic(auto, using(crate::proofs::Unready::moves_kept))]
 fn moves_on(
     trial: &Trial,
@@ -317,8 +317,8 @@ fn moves_on(
     Ok(())
 }
 
-/// The edges of a node, whose memory this is, and which is left as it is; each move is made in the next node. The moves are kept in
-/// the memory of a list.
+/// The edges of a node with this memory, which is left as it is; each move is made in the next node. The list holds the
+/// moves meanwhile, so that its memory is used again.
 pub(crate) fn edges_of(
     alloc: Global,
     trial: &Trial,

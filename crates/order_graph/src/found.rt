@@ -1,4 +1,4 @@
-//! What a search of all orders answers.
+//! The answer of a search of all orders.
 
 use crate::reached::OrdersReached;
 use cf_bind::{Move, Passenger};
@@ -12,10 +12,10 @@ pub struct OrderCounts {
     /// How many are meetings.
     pub meets: u64,
 
-    /// How many results they kill.
+    /// How many results the moves kill.
     pub kills: u64,
 
-    /// How many live instructions die of them.
+    /// How many live instructions die of the moves.
     pub dead: u64,
 }
 
@@ -28,20 +28,20 @@ pub struct WrongOrder {
     /// In which way the last of them is wrong.
     pub kind: WrongKind,
 
-    /// The state that they lead to, all but its memory.
+    /// The state that the moves lead to, without its memory.
     pub reached: Situation,
 
-    /// What is counted of the moves.
+    /// The counts of the moves.
     pub counts: OrderCounts,
 
     /// The instruction that retires with the last move, as it leaves, if one does.
     pub seen: Option<Passenger>,
 
-    /// The line of the sequential machine's next step before that move, where it goes on.
+    /// The line of the sequential machine's next step before that move, if that step does not end the program.
     pub wanted: Option<Retired>,
 }
 
-/// What a search of all orders answers.
+/// The answer of a search of all orders.
 #[derive(Drop)]
 pub enum OrdersFound {
     /// A list of moves is wrong, and none that comes before it in the order of the search is.
@@ -50,6 +50,6 @@ pub enum OrdersFound {
     /// No list of moves is wrong; what they reach.
     Reached(OrdersReached),
 
-    /// They reach more states than were asked for, before any is wrong.
+    /// They reach more states than the limit, before any is wrong.
     TooMany,
 }

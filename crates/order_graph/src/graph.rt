@@ -18,8 +18,9 @@ use order_search::{Edge, Graph};
 use std::alloc::{AllocError, Global};
 use std::marker::Model;
 
-/// Two nodes whose memory serves again: the one whose edges are asked for, and the one to which each of its moves leads in
-/// turn; where the stages of the first stand in its key; and its moves. What they hold between two calls is seen by no contract.
+/// Nodes whose memory is used again: the node whose edges are asked for, and the node to which each of its moves leads
+/// in turn; the positions of the stages of the first in its key; and its moves. No contract says what they hold between
+/// two calls.
 #[derive(Drop)]
 pub(crate) struct Scratch {
     node: Node,
@@ -35,7 +36,7 @@ impl Model for Scratch {
 }
 
 impl Scratch {
-    /// Two nodes of no stage.
+    /// Two nodes without stages.
     pub(crate) fn new(alloc: Global) -> Scratch {
         Scratch {
             node: Node::blank(alloc),
@@ -46,7 +47,7 @@ impl Scratch {
     }
 }
 
-/// A trial, and the memory in which its moves are made, which is as it was loaded between two calls.
+/// A trial, and the memory in which its moves are made. Between two calls this memory is as it was loaded.
 #[derive(Drop)]
 pub struct OrderGraph {
     pub(crate) trial: Trial,
@@ -54,7 +55,7 @@ pub struct OrderGraph {
     pub(crate) scratch: Scratch,
 }
 
-/// Makes a node the one with the key.
+/// Reads the node with the key into this one.
 fn read_node(
     alloc: Global,
     trial: &Trial,
@@ -72,7 +73,7 @@ fn read_node(
     if is_read { Ok(()) } else { unreachable!() }
 }
 
-/// The edges of the node with the key, in a memory that is as it was loaded, and is left so.
+/// The edges of the node with the key, in a memory that is as it was loaded, and is so again afterwards.
 fn edges_at(
     alloc: Global,
     trial: &Trial,

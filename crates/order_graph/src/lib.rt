@@ -1,5 +1,5 @@
-//! The search through all orders of the moves of a program, where a rule of the table may be taken away: the first list of
-//! moves that is wrong, or the states that are reached.
+//! The search through all orders of the moves of a program, where a rule of the table may be taken away: it finds the
+//! first wrong list of moves, or the states that are reached.
 #![tactic(auto)]
 
 mod copying;

@@ -33,14 +33,14 @@ impl OrdersReached {
         self.reached.edges()
     }
 
-    /// From how many of them no move leads on.
+    /// From how many of the states no move leads on.
     pub fn ends(&self) -> u32
         ensures { result ≡ self.now.reached.ends }
     {
         self.reached.ends()
     }
 
-    /// How many lists of moves lead from the start to these. All lists end, so this is never [`Orders::Endless`].
+    /// How many lists of moves lead from the start to such states. All lists end, so this is never [`Orders::Endless`].
     pub fn orders(&self) -> Orders
         ensures { result ≡ self.now.reached.orders }
     {

@@ -23,7 +23,7 @@ fn passenger_at(s: &Situation, i: usize) -> Option<Passenger>
     }
 }
 
-/// Whether an instruction and a result are in the stage that have not met.
+/// Whether the stage has an instruction and a result that have not met.
 #[inline(always)]
 fn is_meeting(cell: Option<Cell>) -> bool
     ensures { result ≡ is_meeting_in cell }
@@ -34,7 +34,7 @@ fn is_meeting(cell: Option<Cell>) -> bool
     }
 }
 
-/// Whether there is an instruction that is still to be executed, and a unit of the stage executes it.
+/// Whether there is an instruction that is still to be executed, and a unit of the stage can execute it.
 #[inline(always)]
 fn is_computed(layout: &LooseLayout, p: Option<Passenger>, i: u32) -> bool
     ensures { result ≡ is_computed_in layout.now p i }
@@ -56,7 +56,7 @@ fn is_owing(p: Option<Passenger>) -> bool
     }
 }
 
-/// Whether there is an instruction that is still to be sent to a siding, and the stage is where that is done.
+/// Whether there is an instruction that is still to be sent to a siding, and this is done at this stage.
 #[inline(always)]
 fn is_launched(layout: &LooseLayout, p: Option<Passenger>, i: u32) -> bool
     ensures { result ≡ is_launched_in layout.now p i }
@@ -103,7 +103,7 @@ fn is_taken(s: &Situation, k: u32, c: u32) -> bool
     }
 }
 
-/// Whether a move can be allowed by what is in its stages; only some of the tests in the move's row are made.
+/// Whether the contents of its stages permit a move; only some of the tests in the move's row are made.
 #[inline(always)]
 pub(crate) fn is_ready(layout: &LooseLayout, s: &Situation, m: Move) -> bool
     ensures { result ≡ is_ready_in layout.now s.now m }

@@ -24,7 +24,7 @@ use order_machine::{NextStep, Waypoint};
 use rv_machine::Retired;
 use std::alloc::{AllocError, Global};
 
-/// The line of the machine's next step, where it goes on.
+/// The line of the machine's next step, if that step does not end the program.
 fn next_line(place: &Waypoint) -> Option<Retired>
     ensures { (isa : Isa) → on result [] (λ l. line_read isa l ∷ []) ≡ next_lines isa place.now.next }
 {
@@ -34,14 +34,14 @@ fn next_line(place: &Waypoint) -> Option<Retired>
     }
 }
 
-/// The node to which moves lead, and what is counted of them.
+/// The node to which moves lead, and the counts of the moves.
 #[derive(Drop)]
 struct Replayed {
     node: Node,
     counts: OrderCounts,
 }
 
-/// Makes moves again from the start, and counts them; the memory is then that of the node to which they lead.
+/// Makes moves again from the start, and counts them; afterwards the memory is that of the node to which they lead.
 fn replay(
     alloc: Global,
     trial: &Trial,
@@ -67,7 +67,7 @@ fn replay(
     Ok(Replayed { node, counts })
 }
 
-/// What the list of moves shows, which is wrong in this way.
+/// What the list of moves, which is wrong in this way, shows.
 pub(crate) fn wrong_order(
     alloc: Global,
     graph: OrderGraph,

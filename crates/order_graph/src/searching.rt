@@ -52,7 +52,7 @@ fn first_of(
     })
 }
 
-/// What the search of the graph answers, said of the trial.
+/// The answer of the search of the graph, in terms of the trial.
 fn answered(
     alloc: Global,
     graph: OrderGraph,
@@ -80,11 +80,12 @@ fn answered(
     }
 }
 
-/// Searches all lists of moves of a program under a layout, with at most so many Issue moves, in the table without the rule that
-/// is taken away, if one is; nothing is left of the input. They are gone through breadth first, as [`order_search::search`] goes
-/// through a graph: a list before all longer ones, and of two as long the one whose move, where they first differ, comes first among
-/// all moves. The first that is wrong ends the search, or that more than `most` states are reached. The three memories are the
-/// program's as it was loaded: the search works in `mem`.
+/// Searches all lists of moves of a program under a layout, with at most this many Issue moves, in the table without
+/// the rule that is taken away, if one is; nothing is left of the input. The lists are visited breadth first, as
+/// [`order_search::search`] visits the paths of a graph: a list before all longer ones, and of two equally long lists
+/// first the one whose move, where they first differ, comes first among all moves. The search ends at the first wrong
+/// list, or when more than `most` states are reached. The three memories are the program's as it was loaded: the search
+/// works in `mem`.
 pub fn search_orders(
     alloc: Global,
     layout: &Layout,
@@ -118,8 +119,8 @@ pub fn search_orders(
     )
 }
 
-/// The same under a layout where control may turn above the stage from which loads and stores are launched: a list may be wrong
-/// there, although no other rule is taken away.
+/// The same under a layout where control may turn above the stage from which loads and stores are launched: a list may
+/// be wrong there, although no other rule is taken away.
 pub fn search_loosely(
     alloc: Global,
     layout: &LooseLayout,

@@ -14,14 +14,14 @@ use cf_bind::{Cell, Move};
 use order_keys::{Node, write_key, write_key_beside};
 use std::alloc::{AllocError, Global};
 
-/// Stages one above the other, counted from 0: from `low` up to below `high`.
+/// Consecutive stages, counted from 0: from `low` up to, but not including, `high`.
 #[derive(Clone, Copy)]
 pub(crate) struct StageSpan {
     pub(crate) low: usize,
     pub(crate) high: usize,
 }
 
-/// The stages that a move may change, where it changes nothing else.
+/// The stages that a move may change, if it changes nothing else.
 #[inline(always)]
 fn span_of(m: Move) -> Option<StageSpan>
     ensures { result ≡ span_in m }
@@ -43,7 +43,7 @@ fn span_of(m: Move) -> Option<StageSpan>
     }
 }
 
-/// The stages that a move which leads on from a node may change, where it changes nothing else.
+/// The stages that a move which leads on from a node may change, if it changes nothing else.
 #[inline(always)]
 #[tactic(auto, using(crate::proofs::Within::span_known))]
 fn span_from(trial: &Trial, node: &Node, m: Move) -> Option<StageSpan>
@@ -55,7 +55,7 @@ fn span_from(trial: &Trial, node: &Node, m: Move) -> Option<StageSpan>
     span_of(m)
 }
 
-/// The key of the node to which a move leads, from that of the node.
+/// The key of the node to which a move leads, from the key of the node.
 pub(crate) fn next_key(
     alloc: Global,
     trial: &Trial,
@@ -79,7 +79,7 @@ pub(crate) fn next_key(
     }
 }
 
-/// Makes stages those of a list, from which they differ within a span alone.
+/// Sets the stages of a span to those of a list; outside the span they are the same already.
 fn put_stages(cells: &mut [Cell], from: &[Cell], span: StageSpan)
     requires order { span.low ≤ span.high }
     requires inside { span.high ≤ length from.now }
@@ -91,7 +91,7 @@ fn put_stages(cells: &mut [Cell], from: &[Cell], span: StageSpan)
     cells[span.low..span.high].copy_from_slice(&from[span.low..span.high]);
 }
 
-/// Makes the node to which a move led the one again that it led from.
+/// Turns the node to which a move led into the node that it led from again.
 pub(crate) fn put_back(
     alloc: Global,
     trial: &Trial,

@@ -40,7 +40,7 @@ pub(crate) struct Trial {
     /// All moves, in their order.
     pub(crate) moves: Vec<Move>,
 
-    /// The most Issue moves.
+    /// The maximum number of Issue moves.
     pub(crate) issues: u8,
 
     /// How many instructions had retired at the start.
@@ -109,7 +109,7 @@ impl Trial {
     }
 }
 
-/// What a trial keeps.
+/// The stored parts of a trial.
 #[inline(always)]
 pub(crate) fn note_trial(trial: &Trial)
     ensures { IsSoundTrial trial.now }

@@ -1,4 +1,4 @@
--- The first test against the machine's place is the first against the machine.
+-- The first test that holds for the machine's place is the first for the machine.
 use Rattle.std.proofs.Common.{◌≡◌, List, Option, Some, None, Result, Ok, Err, refl, sym, subst}
 use Rattle.std.specs.Prelude.{IfOk}
 use Rattle.mem_regions.specs.Memory.{Memory}
@@ -24,7 +24,7 @@ use Rattle.order_judging.specs.Judgements.{RetiresApart, EndsApart, IsServedApar
 use Rattle.order_judging.specs.Places.{IsPlaceOf, next_lines}
 use Rattle.order_judging.proofs.Placed.{retires_wrongly, retires_apart, ends_wrongly, ends_apart, serves_wrongly, serves_apart, stuck_in, stuck_out, rests_wrongly, rests_apart}
 
--- each test may be said otherwise
+-- each test may be stated in another way
 move_said : (A B C D E F : Type 0) (found : Option FailedTest) → (A → D) → (D → A) → (B → E) → (E → B) → (C → F) → (F → C) → IsFirstOfMove A B C found →
     IsFirstOfMove D E F found
 move_said A B C D E F None ad da be eb cf fc h = (λ d. h.0 (da d), λ e. h.1 (eb e), λ f. h.2 (fc f))
@@ -81,7 +81,7 @@ move_judged loaded away plan x place s mem m t k found l e a h w =
     (λ r. serves_apart loaded plan x place (in_memory s mem) m h r)
     w
 
--- the same, where memory does not run out
+-- the same, if memory does not run out
 pub move_result : {E : Type 0} (loaded : Memory) (away : Option Rule) (plan : Plan) (place : MachinePlace) (s : State) (mem : Memory)
     (m : Move) (t : State) (k : MemoryChanges) (r : Result (Option FailedTest) E) →
     IsAsLoaded loaded → in_memory t (state_reached away plan (in_memory s mem) m).mem ≡ state_reached away plan (in_memory s mem) m →

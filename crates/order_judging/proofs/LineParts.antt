@@ -1,4 +1,4 @@
--- Lines are the same where their parts are, and what retires is the machine's next line or another one.
+-- Lines are the same if their parts are, and what retires is the machine's next line or another one.
 use Rattle.std.proofs.Common.{◌≡◌, ◌∙◌, ℕ, [], ◌∷◌, Option, Some, None, ap, subst}
 use Rattle.rv_inst.specs.declared.instruction.Instr.{Instr}
 use Rattle.rv_inst.specs.declared.isa.Isa.{Isa}
@@ -29,7 +29,7 @@ line_of_one l o e = cc
 
 pub ruleset lines_of_steps = (one_line, line_of_one)
 
--- the line of what leaves
+-- the line of the instruction that leaves
 both_ways : (isa : Isa) (next : NextStep) (o : Option Passenger) (r : Option Line) → on o None (λ p. Some (line_of p)) ≡ r →
     (LeavesApart isa next o → RetiresApart (next_lines isa next) (on r [] (λ l. l ∷ [])))
     × (RetiresApart (next_lines isa next) (on r [] (λ l. l ∷ [])) → LeavesApart isa next o)

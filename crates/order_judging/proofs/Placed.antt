@@ -1,4 +1,4 @@
--- The tests against the machine are those against its place.
+-- The tests against the machine are the tests against its place.
 use Rattle.std.proofs.Common.{◌≡◌, ◌∙◌, ℕ, zero, suc, ◌+◌, List, [], ◌∷◌, Option, Some, None, refl, sym, ap, subst, arith}
 use Rattle.std.specs.Prelude.{slice_get}
 use Rattle.mem_regions.specs.Memory.{Memory}
@@ -36,7 +36,7 @@ use Rattle.order_machine.specs.Waypoints.{MachinePlace, AreWaypoints, IsStepOf, 
 use Rattle.order_judging.specs.Judgements.{RetiresApart, EndsApart, IsServedAs, IsServedApart, IsServeThat, RestsApart, at_top}
 use Rattle.order_judging.specs.Places.{IsPlaceOf, machine_memory, next_lines}
 
--- the place of the machine after k steps is that of the one machine after k steps
+-- the place of the machine after k steps is that of the same machine after k steps
 pub place_of : (isa : Isa) (loaded : Memory) (start x : Machine) (k : ℕ) (place : MachinePlace) → IsWaypoint isa loaded start k place →
     after isa start k ≡ Some x → IsPlaceOf isa loaded x place
 place_of isa loaded start x k place w e = subst (λ (y : Machine). IsPlaceOf isa loaded y place) (same w.at x (sym w.count ∙ e))
@@ -44,7 +44,8 @@ place_of isa loaded start x k place w e = subst (λ (y : Machine). IsPlaceOf isa
       same : (m n : Machine) → Some m ≡ Some n → m ≡ n
       same m n f = cc
 
--- of the places after k steps, k + 1 steps and so on, the one at an index is that of the machine after as many more
+-- of the places after k steps, k + 1 steps and so on, the one at an index is that of the machine after this many more
+-- steps
 pub place_at : (isa : Isa) (loaded : Memory) (start x : Machine) (k i : ℕ) (places : List MachinePlace) (place : MachinePlace) →
     AreWaypoints isa loaded start k places →
     slice_get places i ≡ Some place → after isa start (k + i) ≡ Some x → IsPlaceOf isa loaded x place
@@ -57,7 +58,7 @@ place_at isa loaded start x k (suc i) (p ∷ places) place a e f =
     let further : k + suc i ≡ suc k + i = omega arith in
     place_at isa loaded start x (suc k) i places place a.1 e (subst (λ (n : ℕ). after isa start n ≡ Some x) further f)
 
--- the machine's next line is the one of its next step
+-- the machine's next line is the line of its next step
 lines_next : (isa : Isa) (x : Machine) (next : NextStep) → IsStepOf isa x next → lines_at isa x ≡ next_lines isa next
 unfolding step_at
 lines_next isa x (Retires own) s = ap (lines_in isa) s.1
@@ -77,7 +78,7 @@ pub retires_apart : (isa : Isa) (x : Machine) (next : NextStep) (lines : List Li
 retires_apart isa x next [] s h = h
 retires_apart isa x next (line ∷ more) s h = λ e. h (lines_next isa x next s ∙ e)
 
--- the machine's next step ends so where its place says so
+-- the machine's next step ends in this way if its place says so
 stops_next : (isa : Isa) (x : Machine) (next : NextStep) (e : End) → IsStepOf isa x next → step_here isa x ≡ Stops e → next ≡ Ends e
 unfolding step_at
 stops_next isa x (Retires own) e s h = absurd (let g : Stops e ≡ stepped (Next s.0 own) = sym h ∙ ap stepped s.1 in cc)
@@ -87,7 +88,7 @@ next_stops : (isa : Isa) (x : Machine) (next : NextStep) (e : End) → IsStepOf 
 next_stops isa x (Retires own) e s h = absurd (cc)
 next_stops isa x (Ends f) e s h = let g : f ≡ e = cc in s ∙ ap Stops g
 
--- two memories are the same where their changes are
+-- two memories are the same if their changes are
 changes_same : (loaded m other : Memory) (j k : MemoryChanges) → IsAsLoaded loaded → AreChangesOf loaded m j → AreChangesOf loaded other k → m ≡ other → j ≡ k
 changes_same loaded m other j k l a b e = listed_once loaded other j k l (subst (λ (w : Memory). AreChangesOf loaded w j) e a) b
 
@@ -121,7 +122,7 @@ pub ends_apart : (isa : Isa) (loaded : Memory) (x : Machine) (place : MachinePla
 ends_apart isa loaded x place t k h a w =
     subst (λ (o : Option End). EndsApart place o t.regs k) (sym w.1) (λ r. w.2 (ends_rightly isa loaded x place t k w.0 h a r))
 
--- the machine is asked what is asked at its place
+-- the machine makes the same request as at its place
 served_there : (isa : Isa) (loaded : Memory) (x : Machine) (place : MachinePlace) (i : Instr) → IsPlaceOf isa loaded x place →
     serve_of i place.regs (machine_memory loaded place) [] ≡ serve_of i x.hart.regs x.hart.mem x.rest
 served_there isa loaded x place i h = ap (λ (l : List ℕ). serve_of i l (machine_memory loaded place) []) h.regs

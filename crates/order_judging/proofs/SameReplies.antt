@@ -1,4 +1,4 @@
--- Replies are the same where the answers are.
+-- Replies are the same if the answers are.
 use Rattle.std.proofs.Common.{◌≡◌, ◌∙◌, ℕ, suc, zero, List, [], Bool, true, false, Option, Some, None, drop, refl, sym, ap, subst}
 use Rattle.std.specs.Prelude.{◌==◌, if◌then◌else◌, not, min}
 use Rattle.mem_regions.specs.Memory.{Memory}
@@ -62,7 +62,7 @@ call_leaves regs mem = go (call_number regs == 63) (call_number regs == 64) (is_
   go false false false true = refl
   go false false false false = refl
 
--- no answer leaves any input where there is none
+-- no answer leaves any input if there is none
 serve_leaves : (i : Instr) (regs : List ℕ) (mem : Memory) → left_of (serve_of i regs mem []) ≡ []
 unfolding serve_of
 serve_leaves i regs mem = go (synchronizes i) refl where
@@ -83,7 +83,7 @@ told_value m n e = cc
 told_exit : (m n : ℕ) → served.Exit m ≡ served.Exit n → m ≡ n
 told_exit m n e = cc
 
--- the same replies stand for the same answer
+-- the same replies represent the same answer
 calls_same : (loaded mem other : Memory) (c d : Called) (a b : Reply) → left_of c ≡ left_of d → IsReply loaded mem c a → IsReply loaded other d b →
     AreSameReplies a b → c ≡ d
 calls_same loaded mem other (called.Value u) (called.Value v) a b r h k s =
@@ -96,7 +96,7 @@ calls_same loaded mem other (called.Exit status) (called.Value v) a b r h k s =
     absurd (let e : served.Exit status ≡ served.Value v.value = sym h.told ∙ s.0 ∙ k.told in cc)
 calls_same loaded mem other (called.Exit m) (called.Exit n) a b r h k s = ap called.Exit (told_exit m n (sym h.told ∙ s.0 ∙ k.told))
 
--- one answer has one reply, but for the memory of a program that ends
+-- an answer has only one reply, except for the memory of a program that ends
 values_same : (loaded mem other : Memory) (c d : Called) (a b : Reply) → IsAsLoaded loaded → IsReply loaded mem c a → IsReply loaded other d b → c ≡ d →
     AreSameReplies a b
 values_same loaded mem other (called.Value u) (called.Value v) a b l h k e =

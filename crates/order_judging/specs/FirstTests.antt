@@ -13,11 +13,11 @@ use Rattle.order_judging.specs.declared.judging.FailedTest.{FailedTest}
 use Rattle.order_judging.specs.declared.judging.FailedTest.TheVariants as kind
 use Rattle.order_judging.specs.Judgements.{lines_without}
 
--- the state after the move, where nothing is left of the input
+-- the state after the move, when nothing is left of the input
 abbrev pub state_reached : Option Rule → Plan → State → Move → State
 state_reached away plan s mv = (next_without away plan (lone_moment s) mv).state
 
--- of the three tests of a move this is the first to hold, or none holds
+-- of the three tests of a move, this is the first to hold, or none holds
 abbrev pub IsFirstOfMove : Type 0 → Type 0 → Type 0 → Option FailedTest → Type 0
 IsFirstOfMove Retires Ends Serves None = (Retires → ⊥) × (Ends → ⊥) × (Serves → ⊥)
 IsFirstOfMove Retires Ends Serves (Some kind.Retired) = Retires
@@ -26,7 +26,7 @@ IsFirstOfMove Retires Ends Serves (Some kind.Output) = (Retires → ⊥) × (End
 IsFirstOfMove Retires Ends Serves (Some kind.Stuck) = ⊥
 IsFirstOfMove Retires Ends Serves (Some kind.Memory) = ⊥
 
--- of the two tests of a state this is the first to hold, or neither holds
+-- of the two tests of a state, this is the first to hold, or neither holds
 abbrev pub IsFirstOfState : Type 0 → Type 0 → Option FailedTest → Type 0
 IsFirstOfState Stuck Rests None = (Stuck → ⊥) × (Rests → ⊥)
 IsFirstOfState Stuck Rests (Some kind.Stuck) = Stuck

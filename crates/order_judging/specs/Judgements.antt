@@ -25,7 +25,7 @@ use Rattle.order_judging.specs.Places.{machine_memory, next_lines}
 abbrev pub HasPartsOf : Line → Line → Type 0
 HasPartsOf line other = (line.pc ≡ other.pc) × (line.what ≡ other.what) × (line.wrote ≡ other.wrote)
 
--- the line of a move under the table without the rule, if it retires an instruction
+-- the line of a move under the table without the rule, if the move retires an instruction
 abbrev pub lines_without : Option Rule → Plan → State → Move → List Line
 lines_without away plan s mv = on (retires_without away plan s mv) [] (λ l. l ∷ [])
 
@@ -39,12 +39,12 @@ abbrev pub RetiresApart : List Line → List Line → Type 0
 RetiresApart expected [] = ⊥
 RetiresApart expected (line ∷ more) = expected ≢ line ∷ more
 
--- the program ended otherwise than the machine's next step ends it, or with other registers or memory
+-- the program ended differently from the machine's next step, or with other registers or memory
 abbrev pub EndsApart : MachinePlace → Option End → List ℕ → MemoryChanges → Type 0
 EndsApart place None regs changes = ⊥
 EndsApart place (Some e) regs changes = EndsWithState place e regs changes → ⊥
 
--- the instruction is the machine's next one, and is answered with these registers in this memory as it is answered there
+-- the instruction is the machine's next one, and with these registers and this memory it gets the same answer
 pub record IsServedAs (isa : Isa) (loaded : Memory) (place : MachinePlace) (regs : List ℕ) (mem : Memory) (p : Passenger) : Type 0 where
   pub pc : p.pc ≡ place.pc
   pub what : fetched isa (machine_memory loaded place) place.pc ≡ Got (instruction p)
@@ -54,7 +54,7 @@ pub record IsServedAs (isa : Isa) (loaded : Memory) (place : MachinePlace) (regs
 abbrev pub at_top : Plan → State → Option Passenger
 at_top plan s = on (cell_at s.cells plan.stages) None (λ c. c.passenger)
 
--- there is an instruction, which is not the machine's next one, or is answered otherwise
+-- there is an instruction, and it is not the machine's next one or gets a different answer
 abbrev pub IsServedApart : Isa → Memory → MachinePlace → List ℕ → Memory → Option Passenger → Type 0
 IsServedApart isa loaded place regs mem None = ⊥
 IsServedApart isa loaded place regs mem (Some p) = IsServedAs isa loaded place regs mem p → ⊥
@@ -64,6 +64,6 @@ abbrev pub IsServeThat : Move → Type 0 → Type 0
 IsServeThat Serve P = P
 IsServeThat mv P = ⊥
 
--- the processor is drained without an end, and is not where the machine is
+-- the processor is drained without an end, and its state differs from the machine's
 abbrev pub RestsApart : MachinePlace → State → MemoryChanges → Type 0
 RestsApart place s changes = (is_drained s ≡ true) × (s.ending ≡ None) × (RestsAs place s.fetch s.regs changes → ⊥)

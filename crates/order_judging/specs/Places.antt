@@ -22,7 +22,7 @@ pub record IsPlaceOf (isa : Isa) (loaded : Memory) (x : Machine) (place : Machin
 abbrev pub machine_memory : Memory → MachinePlace → Memory
 machine_memory loaded place = memory_after place.changes loaded
 
--- the line of its next step, where that retires an instruction
+-- the line of its next step, if that step retires an instruction
 abbrev pub next_lines : Isa → NextStep → List Line
 next_lines isa (Retires own) = line_read isa own ∷ []
 next_lines isa (Ends e) = []

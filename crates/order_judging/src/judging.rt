@@ -23,22 +23,22 @@ use order_machine::Waypoint;
 use order_model::{Rule, Situation};
 use std::alloc::{AllocError, Global};
 
-/// In what a list of moves is wrong at its last move.
+/// What is wrong with a list of moves at its last move.
 #[derive(Clone, Copy, PartialEq, Eq)]
 pub enum FailedTest {
-    /// An instruction retires with another line than that of the machine's next step, or that step does not go on.
+    /// An instruction retires with a line other than that of the machine's next step, or that step ends the program.
     Retired,
 
-    /// The program ends otherwise than with the machine's next step, or with other registers or memory.
+    /// The program ends differently from the machine's next step, or with other registers or memory.
     Ended,
 
-    /// Serve is of another instruction than the machine's next step, or is answered otherwise.
+    /// Serve is for an instruction other than that of the machine's next step, or gets a different answer.
     Output,
 
-    /// No move leads on, though the program has not ended, and the processor is not drained with fetch running.
+    /// No move leads on, although the program has not ended, and the processor is not drained with fetch running.
     Stuck,
 
-    /// The processor is drained with other registers, memory or address of fetch than the machine's.
+    /// The processor is drained with registers, memory or a fetch address other than the machine's.
     Memory,
 }
 
@@ -61,7 +61,7 @@ pub struct StateSeen<'a> {
     /// The state, without its memory.
     pub situation: &'a Situation,
 
-    /// How its memory differs from the loaded one.
+    /// How its memory differs from the loaded memory.
     pub changes: &'a Changes,
 }
 
@@ -102,9 +102,9 @@ fn first_of_move(
     Ok(None)
 }
 
-/// In what a list of moves is wrong by the tests of its last move, which is allowed and leads from this state to the
-/// one after; if it is. The memory is that of the state, and is left as it is. The place is that of the machine after as
-/// many steps as instructions have retired in the state.
+/// What is wrong with a list of moves, by the tests of its last move, if anything is. The move is allowed and leads
+/// from this state to the one after. The memory is that of the state, and is left as it is. The place is that of the
+/// machine after as many steps as instructions have retired in the state.
 pub fn judge_move(
     alloc: Global,
     setting: ProgramSetting<'_>,
@@ -146,9 +146,9 @@ fn first_of_state(
     }
 }
 
-/// In what a list of moves is wrong by the tests of the state that it leads to, if it is. The state's memory has these
-/// changes, and these moves lead on from there. The place is that of the machine after as many steps as instructions
-/// have retired in the state.
+/// What is wrong with a list of moves, by the tests of the state that it leads to, if anything is. The state's memory
+/// has these changes, and these moves lead on from there. The place is that of the machine after as many steps as
+/// instructions have retired in the state.
 pub fn judge_state(
     image: &Image,
     place: &Waypoint,

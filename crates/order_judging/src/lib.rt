@@ -1,5 +1,5 @@
-//! Whether a list of moves is wrong at its last move: what the move shows, or the state that it leads to, is not what
-//! the sequential machine does.
+//! Whether a list of moves is wrong at its last move: the move, or the state that it leads to, differs from what the
+//! sequential machine does.
 #![tactic(auto)]
 
 mod judging;

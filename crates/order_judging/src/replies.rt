@@ -1,4 +1,4 @@
-//! Replies: what the environment answers to an instruction, as a value.
+//! Replies: the environment's answer to an instruction, as a value.
 
 ghost use Rattle.std.specs.Prelude.{◌≡◌, ◌↔◌, [], IfOk, IsTrue};
 ghost use Rattle.cf_semantics.specs.moves.Instructions.{serve_of};
@@ -15,7 +15,7 @@ use rv_inst::Instr;
 use rv_machine::Served;
 use std::alloc::{AllocError, Global};
 
-/// What the environment answers, where nothing is left of the input.
+/// The environment's answer, when nothing is left of the input.
 #[derive(Drop)]
 pub(crate) struct Reply {
     /// The value, or the status with which the program ends.
@@ -28,7 +28,7 @@ pub(crate) struct Reply {
     output: Vec<u8>,
 }
 
-/// The changes of a memory, which were these, once the instruction is answered there with these registers.
+/// The changes of a memory that had these changes, after the instruction is answered there with these registers.
 fn changes_after(
     alloc: Global,
     image: &Image,
@@ -53,8 +53,8 @@ fn same_told(told: &Served, other: &Served) -> bool
 }
 
 impl Reply {
-    /// What the environment answers to the instruction with these registers, in a memory with these changes; the memory
-    /// is left as it is.
+    /// The environment's answer to the instruction with these registers, in a memory with these changes; the memory is
+    /// left as it is.
     pub(crate) fn to(
         alloc: Global,
         image: &Image,

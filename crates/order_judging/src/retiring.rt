@@ -45,7 +45,7 @@ pub(crate) fn same_instruction(i: &Instr, other: &Instr) -> bool
     i == other
 }
 
-/// Whether the same register got the same value, or none did.
+/// Whether the same register got the same value, or neither got one.
 fn same_destination(binding: &Option<Binding>, other: &Option<Binding>) -> bool
     ensures { IsTrue result ↔ (binding.now ≡ other.now) }
 {
@@ -79,7 +79,7 @@ fn is_next(isa: Isa, next: &NextStep, p: &Passenger) -> bool
     }
 }
 
-/// Whether an instruction leaves that is not the one of the machine's next step.
+/// Whether an instruction leaves that is not that of the machine's next step.
 fn leaves_apart(isa: Isa, next: &NextStep, leaving: Option<Passenger>) -> bool
     ensures { IsTrue result ↔ LeavesApart isa next.now leaving }
 {
@@ -89,7 +89,7 @@ fn leaves_apart(isa: Isa, next: &NextStep, leaving: Option<Passenger>) -> bool
     }
 }
 
-/// Whether the allowed move retires an instruction with another line than that of the machine's next step.
+/// Whether the allowed move retires an instruction with a line other than that of the machine's next step.
 #[tactic(auto, using(crate::proofs::LineParts::lines_of_moves))]
 pub(crate) fn retires_apart(
     away: Option<Rule>,

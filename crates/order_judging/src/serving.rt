@@ -1,4 +1,4 @@
-//! Whether the environment answers the instruction of the highest stage as it answers the machine.
+//! Whether the environment gives the instruction of the highest stage the same answer as the machine.
 
 ghost use Rattle.std.specs.Prelude.{◌≡◌, ◌↔◌, [], IfOk, IsTrue};
 ghost use Rattle.cf_passengers.specs.Issuing.{meant};
@@ -51,7 +51,7 @@ fn is_fetched(what: Result<Instr, End>, i: &Instr) -> bool
     }
 }
 
-/// What the environment would answer the machine to the instruction; the memory is left as it is.
+/// The environment's answer to the instruction, as the machine would get it; the memory is left as it is.
 fn reply_at(
     alloc: Global,
     image: &Image,
@@ -72,7 +72,7 @@ fn reply_at(
     reply
 }
 
-/// Whether the environment answers the instruction with these registers as it would answer the machine.
+/// Whether the instruction with these registers gets the same answer from the environment as the machine would.
 #[tactic(auto, using(crate::proofs::SameReplies::replies_of_calls))]
 fn is_answered_as(
     alloc: Global,
@@ -95,7 +95,7 @@ fn is_answered_as(
     Ok(here.same(&there))
 }
 
-/// Whether the instruction is the machine's next one, and is answered with these registers as the machine is.
+/// Whether the instruction is the machine's next one, and with these registers gets the same answer as the machine.
 fn is_served_as(
     alloc: Global,
     isa: Isa,
@@ -132,7 +132,7 @@ fn top(layout: &LooseLayout, s: &Situation) -> Option<Passenger>
     }
 }
 
-/// Whether the instruction of the highest stage is not the machine's next one, or is answered otherwise.
+/// Whether the instruction of the highest stage is not the machine's next one, or gets a different answer.
 fn is_served_apart(
     alloc: Global,
     layout: &LooseLayout,
@@ -164,7 +164,7 @@ fn is_served_apart(
     Ok(!same)
 }
 
-/// Whether the move is Serve, and the environment answers otherwise than it answers the machine.
+/// Whether the move is Serve, and the environment's answer differs from the answer to the machine.
 pub(crate) fn serves_apart(
     alloc: Global,
     layout: &LooseLayout,

@@ -1,4 +1,4 @@
-//! Whether a state ends, is stuck or rests otherwise than the sequential machine.
+//! Whether a state ends, is stuck or rests differently from the sequential machine.
 
 ghost use Rattle.std.specs.Prelude.{◌≡◌, ◌↔◌, IsTrue};
 ghost use Rattle.cf_bind.specs.declared.packet.Fetch.{Fetch};
@@ -10,7 +10,7 @@ use mem_changes::Changes;
 use order_machine::Waypoint;
 use order_model::Situation;
 
-/// Whether the program ended otherwise than the machine's next step ends it, or with other registers or memory.
+/// Whether the program ended differently from the machine's next step, or with other registers or memory.
 pub(crate) fn ends_apart(place: &Waypoint, s: &Situation, changes: &Changes) -> bool
     ensures { IsTrue result ↔ EndsApart place.now s.now.ending s.now.regs changes.now }
 {
@@ -30,14 +30,14 @@ fn rests_running(s: &Situation) -> bool
     }
 }
 
-/// Whether no move leads on, though the program has not ended, and the processor is not drained with fetch running.
+/// Whether no move leads on, although the program has not ended, and the processor is not drained with fetch running.
 pub(crate) fn is_stuck(s: &Situation, moves: &[Move]) -> bool
     ensures { IsTrue result ↔ IsStuckWrongly moves.now s.now }
 {
     moves.is_empty() && s.ending().is_none() && !rests_running(s)
 }
 
-/// Whether the processor is drained without an end, and is not where the machine is.
+/// Whether the processor is drained without an end, and its state differs from the machine's.
 pub(crate) fn rests_apart(place: &Waypoint, s: &Situation, changes: &Changes) -> bool
     ensures { IsTrue result ↔ RestsApart place.now s.now changes.now }
 {

@@ -1,4 +1,4 @@
--- Pairs, optional values and lists are read back where what they hold is.
+-- Pairs, optional values and lists are read back, provided their elements are.
 use Rattle.std.proofs.Common.{◌≡◌, ℕ, Option, None, Some, List, ◌++◌, refl, append_assoc}
 use Rattle.cf_semantics.specs.state.Options.{is_some}
 use Rattle.order_keys.specs.Unpacked.{Unpacked, got, ReadsBack}

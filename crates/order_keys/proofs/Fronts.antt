@@ -1,4 +1,4 @@
--- What a slice pattern says of the first byte and of those behind it.
+-- What a slice pattern says about the first byte and the bytes after it.
 use Rattle.std.proofs.Common.{◌≡◌, ℕ, ◌-◌, ◌<◌, ◌≤◌, List, [], ◌∷◌, length, get_or, take, drop, refl, arith}
 use Rattle.std.proofs.Math.Seq.{take-length}
 use Rattle.order_keys.specs.Numbers.{leading_byte, behind}

@@ -58,13 +58,13 @@ read_all unpacked count i bs list whole h so_far =
     let before = rw (none, append-nil list) at so_far in
     before
 
--- as many items are read as there are said to be
+-- the number of items read is the count that was given
 items_count : {A : Type 0} (unpacked : List ℕ → Unpacked A) (n : ℕ) (bs : List ℕ) → length (unpacked_items unpacked n bs).value ≡ n
 unfolding unpacked_items
 items_count unpacked zero bs = refl
 items_count unpacked (suc n) bs = ap suc (items_count unpacked n (unpacked bs).left)
 
--- so a list of more than 64 is read from a number above 64
+-- so a list of more than 64 items is read from a count above 64
 pub long_list : (bs : List ℕ) (count : ℕ) → count ≡ (unpacked_long bs).value → 64 < count → 64 < length (unpacked_list unpacked_byte bs).value
 unfolding unpacked_list
 long_list bs count e many =

@@ -49,7 +49,7 @@ word_reads x rest = word_cases x rest (nat_lt x 253) (nat_lt x 65536) refl refl
 pub word_back : ReadsBack packed_word unpacked_word
 word_back = record { back = word_reads }
 
--- no word begins as a long number does
+-- no word begins with the first byte of a long number
 word_front : (x : ℕ) (rest : List ℕ) (tiny small : Bool) → nat_lt x 253 ≡ tiny → nat_lt x 65536 ≡ small →
     (leading_byte (packed_word x ++ rest) == 255) ≡ false
 unfolding packed_word leading_byte

@@ -6,12 +6,12 @@ use Rattle.order_keys.specs.Unpacked.{Unpacked, got}
 use Rattle.order_keys.specs.Numbers.{packed_long, unpacked_long}
 use Rattle.order_keys.specs.Places.{PlaceRead, packed_runs, next_place, unpacked_runs, unpacked_places, register_place}
 
--- the registers from one on are that register and those behind it
+-- the registers from an index on are that register and those after it
 pub one_register : (empty : ℕ) (xs : List ℕ) (i d : ℕ) → i < length xs →
     packed_runs empty (map register_place (drop i xs)) ≡ packed_runs empty (register_place (get_or xs i d) ∷ map register_place (drop (i + 1) xs))
 one_register empty xs i d h = rw (add-one, drop-cons xs i d) refl
 
--- the places from one on are that place and those behind it
+-- the places from an index on are that place and those after it
 pub one_more : (empty : ℕ) (xs : List (Option ℕ)) (i : ℕ) (d : Option ℕ) → i < length xs →
     packed_runs empty (drop i xs) ≡ packed_runs empty (get_or xs i d ∷ drop (i + 1) xs)
 one_more empty xs i d h = rw (add-one, drop-cons xs i d) refl

@@ -6,7 +6,7 @@ use Rattle.order_keys.specs.Numbers.{packed_word, packed_long, unpacked_long}
 use Rattle.order_keys.specs.Places.{packed_runs, packed_places, next_place, unpacked_runs, unpacked_places, register_place, held_in, packed_registers, unpacked_registers}
 use Rattle.order_keys.proofs.NumbersBack.{word_back, long_back}
 
--- this many empty places in front
+-- this many empty places first
 empties : ℕ → List (Option ℕ) → List (Option ℕ)
 empties zero places = places
 empties (suc n) places = None ∷ empties n places
@@ -18,13 +18,13 @@ unfolding unpacked_runs next_place empties
 skipped zero more bs = let e : 0 + more ≡ more = omega arith in rw e refl
 skipped (suc n) more bs = let e : suc n + more ≡ suc (n + more) = omega arith in rw (e, skipped n more bs) refl
 
--- an empty place behind empty ones is one more of them
+-- an empty place after empty ones is one more of them
 empties_more : (n : ℕ) (places : List (Option ℕ)) → empties n (None ∷ places) ≡ None ∷ empties n places
 unfolding empties
 empties_more zero places = refl
 empties_more (suc n) places = ap (λ xs. None ∷ xs) (empties_more n places)
 
--- a value, where the places behind it are read back
+-- a value, where the places after it are read back
 value_read : (value : ℕ) (places : List (Option ℕ)) (rest : List ℕ) →
     let first = unpacked_long (packed_runs 0 places ++ rest) in
     unpacked_runs (length places) first.value first.left ≡ got places rest →

@@ -7,7 +7,7 @@ use Rattle.order_keys.specs.Numbers.{unpacked_long}
 use Rattle.order_keys.specs.Places.{PlaceRead, next_place, unpacked_runs, unpacked_places, held_in, unpacked_registers}
 use Rattle.order_keys.proofs.PlaceSteps.{read_first, read_more, read_all}
 
--- as many places are read as there are said to be
+-- the number of places read is the count that was given
 runs_count : (n empty : ℕ) (bs : List ℕ) → length (unpacked_runs n empty bs).value ≡ n
 unfolding unpacked_runs
 runs_count zero empty bs = refl
@@ -20,7 +20,7 @@ places_count bs = let count = unpacked_long bs in let empty = unpacked_long coun
 pub other_count : (bs : List ℕ) (count : ℕ) → count ≡ (unpacked_long bs).value → count ≢ 32 → length (unpacked_places bs).value ≢ 32
 other_count bs count e other same = other (e ∙ sym (places_count bs) ∙ same)
 
--- the first places of 32 were read, and with those that are still to be read they are all
+-- the first of 32 places have been read, and together with the unread ones they are all
 pub record ReadUpTo (bs : List ℕ) (i empty : ℕ) (left : List ℕ) (places : List (Option ℕ)) : Type 0 where
   pub size : length places ≡ 32
   pub whole : got (take i places ++ (unpacked_runs (32 - i) empty left).value) (unpacked_runs (32 - i) empty left).left ≡ unpacked_places bs
@@ -68,7 +68,7 @@ pub record HasValues (i : ℕ) (regs : List ℕ) (places : List (Option ℕ)) : 
   pub places_size : length places ≡ 32
   pub values : take i regs ≡ take i (map held_in places)
 
--- one value more, where one place more was
+-- one more value, after one more place
 more_valued : (xs : List (Option ℕ)) (i : ℕ) (d : Option ℕ) → i < length xs →
     take (suc i) (map held_in xs) ≡ take i (map held_in xs) ++ held_in (get_or xs i d) ∷ []
 more_valued [] i d h = absurd (omega (arith, h))

@@ -1,4 +1,4 @@
--- What stands in stages and in cells of sidings is read back.
+-- The contents of stages and of cells of sidings are read back.
 use Rattle.std.proofs.Common.{◌≡◌, ℕ, ◌+◌, ◌%◌, ◌^◌, if◌then◌else◌, Bool, true, false, true≢false, Option, None, Some, List, [], ◌++◌, refl, sym, ap, append_assoc, arith}
 use Rattle.std.proofs.lemmas.Bool.Decides.{nat_tests}
 use Rattle.cf_semantics.specs.state.Options.{is_some, on}

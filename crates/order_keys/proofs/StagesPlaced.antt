@@ -1,4 +1,4 @@
--- The stages of a key stand where they are noted to stand, and others may be put in their place.
+-- The stages of a key are where they were noted to be, and can be replaced by others.
 use Rattle.std.proofs.Common.{◌≡◌, ℕ, zero, suc, ◌+◌, ◌-◌, ◌<◌, ◌≤◌, List, [], ◌∷◌, ◌++◌, length, take, drop, refl, sym, ap, subst, ◌∙◌, append_assoc, arith}
 use Rattle.std.specs.Prelude.{slice_index}
 use Rattle.std.specs.List.{between}
@@ -21,7 +21,7 @@ use Rattle.order_keys.proofs.NumbersBack.{long_back}
 use Rattle.order_keys.proofs.StagesBack.{cell_back}
 use Rattle.order_keys.proofs.PlacesRead.{taken_all}
 
--- the bytes of stages one behind the other, cut in two
+-- the bytes of consecutive stages, cut in two
 pub items_cut : (cells : List Cell) (i : ℕ) → packed_items packed_cell (take i cells) ++ packed_items packed_cell (drop i cells) ≡ packed_items packed_cell
     cells
 unfolding packed_items
@@ -29,7 +29,7 @@ items_cut cells zero = refl
 items_cut [] (suc i) = refl
 items_cut (c ∷ cells) (suc i) = simp append_assoc (ap (λ (l : List ℕ). packed_cell c ++ l) (items_cut cells i))
 
--- as many bytes are left behind the first stages as the others and what is behind them have
+-- the bytes left after the first stages are as many as those of the other stages and of what follows
 left_behind : (cells : List Cell) (rest : List ℕ) (i : ℕ) → i < length cells →
     slice_index (lefts_from (length cells) (packed_items packed_cell cells ++ rest)) i ≡ length (packed_items packed_cell (drop (suc i) cells) ++ rest)
 unfolding lefts_from packed_items
@@ -42,7 +42,7 @@ unfolding lefts_from packed_items
 lefts_many [] rest = refl
 lefts_many (c ∷ cells) rest = simp (append_assoc, cell_back.back) (ap suc (lefts_many cells rest))
 
--- what stands behind the stages of a key
+-- what follows the stages of a key
 abbrev pub behind_stages : Node → List ℕ
 behind_stages n =
     packed_sidings n.situation.sidings ++ (packed_list packed_byte n.situation.lane ++ (packed_fetching (fetching_of n.situation)
@@ -69,7 +69,7 @@ many_lefts : (cells : List Cell) (rest : List ℕ) →
 unfolding lefts_of
 many_lefts cells rest = simp long_back.back (ap suc (lefts_many cells rest))
 
--- lists one behind the other, put together in another order
+-- concatenated lists, grouped differently
 cut_again : (a b c d : List ℕ) → a ++ ((b ++ c) ++ d) ≡ (a ++ b) ++ (c ++ d)
 cut_again a b c d = simp append_assoc refl
 
@@ -121,7 +121,7 @@ module _ (n : Node) (key lefts : List ℕ) (is : key ≡ key_of_node n) (there :
       let size : length (front_of i) ≡ length key - slice_index lefts i = omega (arith, e) in
       ap (drop (length key - slice_index lefts i)) (cut_at i) ∙ drop_at (front_of i) (back_of i) (length key - slice_index lefts i) size
 
--- what stands behind the stages does not depend on them
+-- what follows the stages does not depend on them
 same_behind : (low high : ℕ) (before n : Node) → DiffersWithin low high before n → behind_stages n ≡ behind_stages before
 same_behind low high before n d =
     ap (λ (s : State). packed_sidings s.sidings ++ (packed_list packed_byte s.lane ++ (packed_fetching (fetching_of s)
@@ -129,7 +129,7 @@ same_behind low high before n d =
     ∙ ap (λ (k : MemoryChanges). behind_stages (let r : Node = record before { changes = k; issues = n.issues } in r)) d.changes
     ∙ ap (λ (i : ℕ). behind_stages (let r : Node = record before { issues = i } in r)) d.issues
 
--- the key of another node, put together
+-- the key of another node, built from its parts
 pub put_together : (low high : ℕ) (before n : Node) → low ≤ high → DiffersWithin low high before n →
     ((packed_long (length before.situation.cells) ++ packed_items packed_cell (take low before.situation.cells))
     ++ packed_items packed_cell (between low high n.situation.cells))
@@ -145,7 +145,7 @@ put_together low high before n order d =
     (packed_items packed_cell (drop high cells)) (behind_stages n)
     ∙ ap (λ (l : List ℕ). packed_long (length cells) ++ (l ++ behind_stages n)) items ∙ sym (key_split n))
 
--- where stages stand, noted one after another
+-- where stages are, noted one after another
 pub no_left : (bs : List ℕ) (count : ℕ) (left : List ℕ) (lefts : List ℕ) → count ≡ (unpacked_long bs).value → left ≡ (unpacked_long bs).left →
     lefts ≡ length left ∷ [] → lefts ++ lefts_from (count - 0) left ≡ lefts_of bs
 unfolding lefts_of
@@ -172,11 +172,11 @@ all_left count i bs lefts whole h so_far =
 pub all_taken : (cells : List Cell) (i count : ℕ) → length cells ≡ count → count ≤ i → take i cells ≡ cells
 all_taken cells i count e h = taken_all cells i (omega (arith, e, h))
 
--- and are the stages of the list that they were lent from
+-- and are the stages of the list that was passed by reference
 pub written_back : (n : ℕ) (cells items : List Cell) → length cells ≡ n → take n (cells ++ drop (length cells) items) ≡ cells
 written_back n cells items e = take_at cells (drop (length cells) items) n e
 
--- where stages begin that are in the key
+-- the positions of stages that are in the key
 module _ (before n : Node) (key lefts : List ℕ) (low high : ℕ) (is : key ≡ key_of_node before) (there : lefts ≡ lefts_of key) (order : low ≤ high)
     (inside : high ≤ length n.situation.cells) (d : DiffersWithin low high before n) where
   high_there : high ≤ length before.situation.cells

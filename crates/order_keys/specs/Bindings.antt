@@ -1,4 +1,4 @@
--- Bindings as bytes: the register, then its value if it is known; whether it is stands elsewhere.
+-- Bindings as bytes: the register, then its value if it is known; a flag elsewhere says whether it is.
 use Rattle.std.specs.Prelude.{ℕ, Bool, false, Option, List, ◌++◌}
 use Rattle.cf_bind.specs.declared.binding.Binding.{Binding}
 use Rattle.cf_semantics.specs.state.Options.{is_some, on}

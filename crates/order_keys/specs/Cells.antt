@@ -1,4 +1,4 @@
--- What stands in a stage, and in a cell of a siding, as bytes.
+-- The contents of a stage, and of a cell of a siding, as bytes.
 use Rattle.std.specs.Prelude.{ℕ, Bool, false, not, ◌&&◌, Option, None, List, ◌++◌}
 use Rattle.rv_inst.specs.declared.instruction.Instr.{Instr}
 use Rattle.cf_bind.specs.declared.cell.Cell.{Cell}
@@ -13,7 +13,7 @@ use Rattle.order_keys.specs.Results.{packed_packet, unpacked_packet}
 use Rattle.order_keys.specs.Passengers.{packed_passenger, unpacked_passenger}
 use Rattle.order_keys.specs.StageFlags.{packed_stage_flags, unpacked_stage_flags}
 
--- the stage is as it is with nothing in it
+-- the stage is empty: no instruction, no result, and the flag for a meeting not set
 abbrev pub is_empty_stage : Cell → Bool
 is_empty_stage c = not (is_some c.passenger) && not (is_some c.packet) && not c.met
 

@@ -1,4 +1,4 @@
--- Pairs, optional values and lists as bytes, from the bytes of what they hold.
+-- Pairs, optional values and lists as bytes, built from the bytes of their elements.
 use Rattle.std.specs.Prelude.{ℕ, ◌==◌, if◌then◌else◌, Bool, Option, None, Some, List, [], ◌∷◌, ◌++◌}
 use Rattle.order_keys.specs.Unpacked.{Unpacked, got, as_read}
 use Rattle.order_keys.specs.Numbers.{leading_byte, behind}

@@ -7,7 +7,7 @@ use Rattle.order_keys.specs.Numbers.{leading_byte, behind, packed_byte, unpacked
 use Rattle.order_keys.specs.Compounds.{packed_pair, unpacked_pair, packed_triple, unpacked_triple}
 use Rattle.order_keys.specs.Operations.{packed_cond, unpacked_cond, packed_load, unpacked_load, packed_store, unpacked_store, packed_imm_op, unpacked_imm_op, packed_reg_op, unpacked_reg_op, packed_mul_op, unpacked_mul_op}
 
--- the number of an instruction's form: first those that go elsewhere or use memory
+-- the number of an instruction's form: first those that jump, branch or use memory
 abbrev pub form_number : Instr → ℕ
 form_number (Jal rd imm) = 0
 form_number (Jalr rd rs1 imm) = 1
@@ -24,7 +24,7 @@ form_number (Mul op rd rs1 rs2) = 11
 form_number Ecall = 12
 form_number Ebreak = 13
 
--- a register and an immediate without a sign, or with one
+-- a register and an immediate, unsigned or signed
 abbrev pub packed_upper : ℕ × ℕ → List ℕ
 packed_upper = packed_pair packed_byte packed_word
 
@@ -37,7 +37,7 @@ packed_jump = packed_pair packed_byte packed_signed
 abbrev pub unpacked_jump : List ℕ → Unpacked (ℕ × ℤ)
 unpacked_jump = unpacked_pair unpacked_byte unpacked_signed
 
--- two registers and an immediate without a sign, or with one
+-- two registers and an immediate, unsigned or signed
 abbrev pub packed_fence : ℕ × ℕ × ℕ → List ℕ
 packed_fence = packed_triple packed_byte packed_byte packed_word
 

@@ -25,7 +25,7 @@ unpacked_node bs = as_read node_in (unpacked_triple unpacked_situation unpacked_
 unfoldable pub node_of : List ℕ → Node
 node_of key = (unpacked_node key).value
 
--- a node of no stage, before one is read in its place
+-- a node without stages, into which another can be read
 abbrev pub blank_node : Node
 blank_node = record {
   situation = record {
@@ -52,6 +52,6 @@ bare_node n = record n { situation = without_memory n.situation }
 abbrev pub KeysAreReadBack : Type 0
 KeysAreReadBack = (n : Node) → node_of (key_of_node n) ≡ bare_node n
 
--- no two nodes have one key
+-- no two nodes have the same key
 abbrev pub KeysTellApart : Type 0
 KeysTellApart = (n m : Node) → key_of_node n ≡ key_of_node m → bare_node n ≡ bare_node m

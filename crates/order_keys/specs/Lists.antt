@@ -3,7 +3,7 @@ use Rattle.std.specs.Prelude.{ℕ, zero, suc, List, [], ◌∷◌, ◌++◌, len
 use Rattle.order_keys.specs.Unpacked.{Unpacked, got}
 use Rattle.order_keys.specs.Numbers.{packed_long, unpacked_long}
 
--- the items one behind the other
+-- the items, one after another
 unfoldable pub packed_items : {A : Type 0} → (A → List ℕ) → List A → List ℕ
 packed_items packed [] = []
 packed_items packed (x ∷ xs) = packed x ++ packed_items packed xs

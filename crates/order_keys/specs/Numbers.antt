@@ -1,13 +1,14 @@
--- Numbers as bytes: one that is small as a byte, and else behind a byte that says how many there are, the lowest first.
+-- Numbers as bytes: a small one as a single byte, any other after a byte that says how many bytes follow, the lowest
+-- first.
 use Rattle.std.specs.Prelude.{ℕ, ◌+◌, ◌*◌, ◌/◌, ◌%◌, ◌^◌, ℤ, pos, negsuc, nat_lt, ◌==◌, if◌then◌else◌, List, [], ◌∷◌, ◌++◌}
 use Rattle.order_keys.specs.Unpacked.{Unpacked, got}
 
--- the first byte, 0 where there is none
+-- the first byte, or 0 if there is none
 unfoldable pub leading_byte : List ℕ → ℕ
 leading_byte [] = 0
 leading_byte (b ∷ bs) = b
 
--- the bytes behind the first
+-- the bytes after the first
 unfoldable pub behind : List ℕ → List ℕ
 behind [] = []
 behind (b ∷ bs) = bs
@@ -36,14 +37,14 @@ unpacked_four bs =
     let high = unpacked_two low.left in
     got (low.value + 65536 * high.value) high.left
 
--- a number below 2 ^ 32 in as few bytes as it needs of these forms
+-- a number below 2 ^ 32, in the shortest of these forms
 unfoldable pub packed_word : ℕ → List ℕ
 packed_word n =
     if nat_lt n 253 then n ∷ [] else
     if nat_lt n 65536 then (253 ∷ []) ++ packed_two n else
     (254 ∷ []) ++ packed_four n
 
--- one of the forms that are longer than a byte, from what stands behind its first byte
+-- one of the forms longer than a byte, from what follows its first byte
 abbrev pub unpacked_wide : ℕ → List ℕ → Unpacked ℕ
 unpacked_wide first bs = if first == 253 then unpacked_two bs else unpacked_four bs
 
@@ -60,23 +61,23 @@ unpacked_eight bs =
     let high = unpacked_four low.left in
     got (low.value + 2 ^ 32 * high.value) high.left
 
--- a number below 2 ^ 64 in as few bytes as it needs of these forms
+-- a number below 2 ^ 64, in the shortest of these forms
 unfoldable pub packed_long : ℕ → List ℕ
 packed_long n = if nat_lt n (2 ^ 32) then packed_word n else (255 ∷ []) ++ packed_eight n
 
 unfoldable pub unpacked_long : List ℕ → Unpacked ℕ
 unpacked_long bs = if leading_byte bs == 255 then unpacked_eight (behind bs) else unpacked_word bs
 
--- the place of a signed number among 0, -1, 1, -2, 2 and so on
+-- the index of a signed number in the sequence 0, -1, 1, -2, 2 and so on
 abbrev pub folded : ℤ → ℕ
 folded (pos n) = 2 * n
 folded (negsuc n) = 2 * n + 1
 
--- the signed number at this place
+-- the signed number at this index
 abbrev pub unfolded : ℕ → ℤ
 unfolded n = if n % 2 == 0 then pos (n / 2) else negsuc (n / 2)
 
--- a signed number from -2 ^ 31 up to below 2 ^ 31
+-- a signed number from -2 ^ 31 up to, but not including, 2 ^ 31
 unfoldable pub packed_signed : ℤ → List ℕ
 packed_signed z = packed_word (folded z)
 

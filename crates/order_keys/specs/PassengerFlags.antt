@@ -1,4 +1,4 @@
--- What is yes or no of an instruction on its way up, as the bits of two bytes.
+-- The flags of an instruction on its way up, as the bits of two bytes.
 use Rattle.std.specs.Prelude.{ℕ, ◌+◌, ◌*◌, List, [], ◌∷◌}
 use Rattle.order_keys.specs.declared.passenger_flags.PassengerFlags.{PassengerFlags}
 use Rattle.order_keys.specs.declared.passenger_flags.OriginFlags.{OriginFlags}

@@ -1,4 +1,4 @@
--- Results and what fetch does, as bytes: the number of the form, then what it holds.
+-- Results and the state of fetch, as bytes: the number of the form, then its contents.
 use Rattle.std.specs.Prelude.{ℕ, ◌==◌, if◌then◌else◌, List, [], ◌∷◌, ◌++◌}
 use Rattle.cf_bind.specs.declared.packet.Packet.{Packet}
 use Rattle.cf_bind.specs.declared.packet.Packet.TheVariants.{Value, Turn, Halt}

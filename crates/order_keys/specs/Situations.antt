@@ -32,7 +32,7 @@ packed_pipes x = packed_triple (packed_list packed_cell) packed_sidings (packed_
 unfoldable pub unpacked_pipes : List ℕ → Unpacked (List Cell × List (List (Option Op)) × List ℕ)
 unpacked_pipes bs = unpacked_triple (unpacked_list unpacked_cell) unpacked_sidings (unpacked_list unpacked_byte) bs
 
--- what fetch does, the cache, and the registers
+-- the state of fetch, the cache, and the registers
 abbrev pub fetching_of : State → Fetch × List (Option ℕ) × List ℕ
 fetching_of s = (s.fetch, s.cache, s.regs)
 
@@ -59,7 +59,7 @@ unpacked_past bs = unpacked_pair unpacked_long (unpacked_option unpacked_end) bs
 unfoldable pub packed_situation : State → List ℕ
 packed_situation s = packed_triple packed_pipes packed_fetching packed_past (pipes_of s, fetching_of s, past_of s)
 
--- the state of these parts, without a memory
+-- the state with these parts, without a memory
 abbrev pub situation_of : List Cell × List (List (Option Op)) × List ℕ → Fetch × List (Option ℕ) × List ℕ → ℕ × Option End → State
 situation_of pipes fetching past = record {
   cells = pipes.0;

@@ -1,4 +1,4 @@
-//! The key of a node that differs from another in some of its stages alone.
+//! The key of a node that differs from another only in some of its stages.
 
 ghost use Rattle.std.specs.Prelude.{◌≡◌, ◌≤◌, IfOk, length};
 ghost use Rattle.order_keys.specs.Beside.{DiffersWithin};
@@ -10,7 +10,8 @@ use crate::lists::pack_items;
 use crate::node::{Node, note_shape};
 use std::alloc::{AllocError, Global};
 
-/// The key of a node, from that of another from which it differs within some stages alone, and from where each stage stands there.
+/// The key of a node, from the key of another node from which it differs only within some stages, and from the position
+/// of each stage there.
 pub fn write_key_beside(
     alloc: Global,
     before: &Node,

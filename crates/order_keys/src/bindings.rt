@@ -37,7 +37,7 @@ pub(crate) fn pack_bound(bound: &Option<Binding>, key: &mut Vec<u8>) -> Result<(
     }
 }
 
-/// Takes a binding from the front of what is left of a key, if there is said to be one, with its value if this is said to
+/// Reads a binding from the unread bytes of a key, if there is said to be one, with its value if this is said to
 /// be known.
 #[inline(always)]
 #[tactic(auto, unfolding(crate::specs::Compounds::unpacked_some, crate::specs::Bindings::unpacked_binding))]

@@ -1,4 +1,4 @@
-//! What stands in a stage, and in a cell of a siding, in keys.
+//! The contents of a stage, and of a cell of a siding, in keys.
 
 ghost use Rattle.std.specs.Prelude.{◌≡◌};
 ghost use Rattle.order_keys.specs.Cells.{is_empty_stage as is_empty_in, stage_flags_of, unpacked_cell};
@@ -11,14 +11,14 @@ use cf_bind::{Cell, Op};
 use rv_inst::Instr;
 use std::alloc::AllocError;
 
-/// A stage with nothing in it.
+/// An empty stage.
 pub(crate) const EMPTY: Cell = Cell {
     passenger: None,
     packet: None,
     met: false,
 };
 
-/// Whether the stage is as it is with nothing in it.
+/// Whether the stage is empty: no instruction, no result, and the flag for a meeting not set.
 #[inline(always)]
 fn is_empty(cell: &Cell) -> bool
     ensures { result ≡ is_empty_in cell.now }
@@ -61,8 +61,7 @@ impl Pack for Cell {
     }
 }
 
-/// Makes a stage the one at the front of what is left of a key, which it takes from there. One that is empty and stays so
-/// is not written.
+/// Reads a stage from the unread bytes of a key into this one. A stage that is empty and stays so is not written.
 #[inline(always)]
 #[tactic(auto, unfolding(crate::specs::Cells::unpacked_cell, crate::specs::StageFlags::unpacked_stage_flags, crate::specs::Compounds::unpacked_some))]
 pub(crate) fn unpack_cell(cell: &mut Cell, key: &mut Unread<'_>)

@@ -38,7 +38,7 @@ pub(crate) fn pack_changes(changes: &Changes, key: &mut Vec<u8>) -> Result<(), A
     changes.program_break.pack(key)
 }
 
-/// Makes changes those at the front of what is left of a key, which it takes from there.
+/// Reads changes from the unread bytes of a key into these.
 #[tactic(auto, unfolding(crate::specs::Memories::unpacked_changes, crate::specs::Compounds::unpacked_triple))]
 pub(crate) fn unpack_changes(changes: &mut Changes, key: &mut Unread<'_>) -> Result<(), AllocError>
     ensures { IfOk result (λ _. record { value = changes.new; left = key.new } ≡ unpacked_changes key.old) }

@@ -100,7 +100,7 @@ pub(crate) fn pack_some<T: Pack>(value: &Option<T>, key: &mut Vec<u8>) -> Result
     }
 }
 
-/// Takes a value from the front of what is left of a key, if there is said to be one.
+/// Reads a value from the unread bytes of a key, if there is said to be one.
 #[inline(always)]
 #[tactic(auto, unfolding(crate::specs::Compounds::unpacked_some))]
 pub(crate) fn unpack_some<T: Pack>(there: bool, key: &mut Unread<'_>) -> Option<T>

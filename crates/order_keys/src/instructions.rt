@@ -8,7 +8,7 @@ use crate::unread::Unread;
 use rv_inst::{Cond, ImmOp, Instr, LoadKind, MulOp, RegOp, StoreKind};
 use std::alloc::AllocError;
 
-/// Takes the fields of an instruction that goes elsewhere or uses memory, by the number of its form.
+/// Reads the fields of an instruction that jumps, branches or uses memory, by the number of its form.
 #[tactic(auto, unfolding(crate::specs::Instructions::far_form))]
 fn unpack_far(form: u8, key: &mut Unread<'_>) -> Instr
     ensures value { result ≡ (far_form form key.old).value }
@@ -56,7 +56,7 @@ fn unpack_far(form: u8, key: &mut Unread<'_>) -> Instr
     }
 }
 
-/// Takes the fields of any other instruction, by the number of its form.
+/// Reads the fields of any other instruction, by the number of its form.
 #[tactic(auto, unfolding(crate::specs::Instructions::near_form))]
 fn unpack_near(form: u8, key: &mut Unread<'_>) -> Instr
     ensures value { result ≡ (near_form form key.old).value }

@@ -8,7 +8,7 @@ pub fn keys_are_read_back()
     ensures { KeysAreReadBack }
 {}
 
-/// No two nodes have one key.
+/// No two nodes have the same key.
 #[tactic(auto, using(crate::proofs::KeysBack::reading))]
 pub fn keys_tell_nodes_apart()
     ensures { KeysTellApart }

@@ -1,4 +1,4 @@
-//! The nodes of a search through all orders as byte strings, each node by its own.
+//! The nodes of a search through all orders as byte strings, each node as its own.
 #![tactic(auto)]
 
 mod beside;

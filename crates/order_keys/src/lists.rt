@@ -27,7 +27,7 @@ pub(crate) fn pack_list<T: Pack>(items: &[T], key: &mut Vec<u8>) -> Result<(), A
     pack_items(items, key)
 }
 
-/// Makes a list the one at the front of what is left of a key, which it takes from there.
+/// Reads a list from the unread bytes of a key into this one.
 #[tactic(auto, unfolding(crate::specs::Lists::unpacked_list))]
 pub(crate) fn unpack_list<T: Pack + Drop>(
     list: &mut Vec<T>,

@@ -35,8 +35,8 @@ fn note_length(regs: &[u32; 32])
     ensures { length regs.now ≡ 32 }
 {}
 
-/// A state has at most 64 requests, and 32 places each in its cache and in its register file; it is seen without a
-/// memory, and without a fault.
+/// A state has at most 64 requests, and 32 places each in its cache and in its register file; it is considered without
+/// a memory, and without a fault.
 #[inline(always)]
 pub(crate) fn note_shape(situation: &Situation)
     ensures whole { IsWhole situation.now }
@@ -46,7 +46,7 @@ pub(crate) fn note_shape(situation: &Situation)
     note_length(&situation.regs);
 }
 
-/// The node's key, which no other node has; or an error where there is no memory for it.
+/// The node's key, which no other node has; or an error if there is not enough memory for it.
 #[tactic(auto, unfolding(crate::specs::Keys::key_of_node, crate::specs::Compounds::packed_triple))]
 pub fn write_key(alloc: Global, node: &Node) -> Result<Vec<u8>, AllocError>
     ensures key { IfOk result (λ key. key.items ≡ key_of_node node.now) }
@@ -62,7 +62,7 @@ pub fn write_key(alloc: Global, node: &Node) -> Result<Vec<u8>, AllocError>
 }
 
 impl Node {
-    /// A node of no stage and with no changes, which has taken no memory yet: one is read in its place.
+    /// A node without stages and changes, which has taken no memory yet: another can be read into it.
     pub fn blank(alloc: Global) -> Node
         ensures { result ≡ blank_node }
     {
@@ -86,10 +86,10 @@ impl Node {
         }
     }
 
-    /// Makes this node the one with a key, in the memory that it has, where this is enough, and notes how many bytes of the key are
-    /// left behind the number of stages and behind each stage; or answers `false` where there is none: the key's lane is longer
-    /// than 64, or its cache or its registers are not 32, as in no key of a node. After `false` or an error nothing is known of
-    /// this node.
+    /// Reads the node with this key into this one, in the memory that it has if this is enough, and notes how many
+    /// bytes of the key are left after the number of stages and after each stage. Returns `false` if there is no such
+    /// node: the key's lane is longer than 64, or its cache or its registers are not 32, which no key of a node has.
+    /// After `false` or an error nothing is known of this node.
     #[tactic(auto, unfolding(crate::specs::Keys::node_of, crate::specs::Keys::unpacked_node, crate::specs::Compounds::unpacked_triple))]
     pub fn read(
         &mut self,
@@ -110,7 +110,7 @@ impl Node {
     }
 }
 
-/// The node with this key; or an error where there is no memory for it. There is none where the key's lane is longer
+/// The node with this key; or an error if there is not enough memory for it. There is none if the key's lane is longer
 /// than 64, or its cache or its registers are not 32, which no key of a [`Node`] has.
 pub fn read_key(alloc: Global, key: &[u8]) -> Result<Option<Node>, AllocError>
     ensures { IfOk result (λ found. let node = node_of key.now in MatchOption found (IsWhole node.situation → ⊥) (λ n. n ≡ node)) }

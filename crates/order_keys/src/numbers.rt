@@ -7,13 +7,13 @@ use crate::pack::Pack;
 use crate::unread::Unread;
 use std::alloc::AllocError;
 
-/// Stands in front of a number of two bytes.
+/// Marks a number of two bytes, which follow it.
 const TWO: u8 = 253;
 
-/// Stands in front of a number of four bytes.
+/// Marks a number of four bytes, which follow it.
 const FOUR: u8 = 254;
 
-/// Stands in front of a number of eight bytes.
+/// Marks a number of eight bytes, which follow it.
 const EIGHT: u8 = 255;
 
 /// Appends a number below 2^16, its lower byte first, to a key that has room for it.
@@ -43,7 +43,7 @@ fn put_four(number: u32, key: &mut Vec<u8>)
     put_two(number / 65536, key);
 }
 
-/// Appends a number that one byte alone does not hold, in as few bytes as it needs of the longer forms.
+/// Appends a number that does not fit into one byte, in the shortest of the longer forms.
 #[tactic(auto, unfolding(crate::specs::Numbers::packed_word))]
 fn pack_wide(number: u32, key: &mut Vec<u8>) -> Result<(), AllocError>
     requires { 253 ≤ number }
@@ -62,7 +62,7 @@ fn pack_wide(number: u32, key: &mut Vec<u8>) -> Result<(), AllocError>
     }
 }
 
-/// Appends a number that four bytes do not hold, its lower half first.
+/// Appends a number that does not fit into four bytes, its lower half first.
 #[tactic(auto, unfolding(crate::specs::Numbers::packed_long, crate::specs::Numbers::packed_eight))]
 fn pack_widest(number: u64, key: &mut Vec<u8>) -> Result<(), AllocError>
     requires { 2 ^ 32 ≤ number }
@@ -75,7 +75,7 @@ fn pack_widest(number: u64, key: &mut Vec<u8>) -> Result<(), AllocError>
     Ok(())
 }
 
-/// Takes a number of two bytes.
+/// Reads a number of two bytes.
 #[tactic(auto, unfolding(crate::specs::Numbers::unpacked_two))]
 fn unpack_two(key: &mut Unread<'_>) -> u32
     ensures value { result ≡ (unpacked_two key.old).value }
@@ -87,7 +87,7 @@ fn unpack_two(key: &mut Unread<'_>) -> u32
     u32::from(low) + 256 * u32::from(high)
 }
 
-/// Takes a number of four bytes.
+/// Reads a number of four bytes.
 #[tactic(auto, unfolding(crate::specs::Numbers::unpacked_four))]
 fn unpack_four(key: &mut Unread<'_>) -> u32
     ensures value { result ≡ (unpacked_four key.old).value }
@@ -98,7 +98,7 @@ fn unpack_four(key: &mut Unread<'_>) -> u32
     low + 65536 * high
 }
 
-/// Takes a number of a longer form than one byte, whose first byte was taken.
+/// Reads a number in a form longer than one byte, whose first byte has been read.
 #[tactic(auto, unfolding(crate::specs::Numbers::unpacked_wide))]
 fn unpack_wide(first: u8, key: &mut Unread<'_>) -> u32
     ensures value { result ≡ (unpacked_wide first key.old).value }
@@ -111,7 +111,7 @@ fn unpack_wide(first: u8, key: &mut Unread<'_>) -> u32
     }
 }
 
-/// Takes a number of eight bytes.
+/// Reads a number of eight bytes.
 #[tactic(auto, unfolding(crate::specs::Numbers::unpacked_eight))]
 fn unpack_eight(key: &mut Unread<'_>) -> u64
     ensures value { result ≡ (unpacked_eight key.old).value }
@@ -122,7 +122,7 @@ fn unpack_eight(key: &mut Unread<'_>) -> u64
     u64::from(low) + 0x1_0000_0000 * u64::from(high)
 }
 
-/// The signed numbers as unsigned ones, those near 0 first: 0, -1, 1, -2 and so on.
+/// The signed number as an unsigned one, those near 0 first: 0, -1, 1, -2 and so on.
 #[inline(always)]
 fn folded(number: i32) -> u32
     ensures { result ≡ folded_of number }
@@ -135,7 +135,7 @@ fn folded(number: i32) -> u32
     }
 }
 
-/// The signed number that is folded to this one.
+/// The signed number of this unsigned one.
 #[inline(always)]
 fn unfolded(number: u32) -> i32
     ensures { result ≡ unfolded_of number }

@@ -1,11 +1,11 @@
-//! What is yes or no of an instruction on its way up, in keys.
+//! The flags of an instruction on its way up, in keys.
 
 use crate::bits::{half, is_set};
 use crate::pack::Pack;
 use crate::unread::Unread;
 use std::alloc::AllocError;
 
-/// How far an instruction has come, in the words of `Passenger`; of what it may have, whether it is there.
+/// How far an instruction has come, and which of the parts that it gets on its way it has; named as in `Passenger`.
 #[derive(Clone, Copy)]
 pub(crate) struct PassengerFlags {
     pub(crate) done: bool,
@@ -14,18 +14,18 @@ pub(crate) struct PassengerFlags {
     pub(crate) dead: bool,
     pub(crate) next: bool,
 
-    /// The program goes on with the instruction behind it.
+    /// The program goes on with the next instruction in memory.
     pub(crate) follows: bool,
     pub(crate) ending: bool,
     pub(crate) owes: bool,
 }
 
-/// Which parts an instruction has of those that it may have from the first, in the words of `Passenger`.
+/// Which of the parts that an instruction may have from the start it has; named as in `Passenger`.
 #[derive(Clone, Copy)]
 pub(crate) struct OriginFlags {
     pub(crate) what: bool,
 
-    /// Fetch did not go on with the instruction behind it.
+    /// Fetch did not go on with the next instruction in memory.
     pub(crate) guess: bool,
     pub(crate) src1: bool,
     pub(crate) src1_value: bool,

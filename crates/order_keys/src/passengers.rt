@@ -180,7 +180,7 @@ fn pack_bindings(p: &Passenger, key: &mut Vec<u8>) -> Result<(), AllocError>
     pack_bound(&p.dst, key)
 }
 
-/// Appends the address at which the program goes on behind the instruction at `pc`, if the flags do not tell it.
+/// Appends the address at which the program goes on after the instruction at `pc`, if the flags do not say it.
 #[inline(always)]
 #[tactic(auto, unfolding(crate::specs::Passengers::packed_next))]
 fn pack_next(pc: u32, next: Option<u32>, key: &mut Vec<u8>) -> Result<(), AllocError>

@@ -1,4 +1,4 @@
-//! Values by register in keys: between two values stands how many registers without one there are.
+//! Values by register in keys: between two values is the number of registers without one.
 
 ghost use Rattle.std.specs.Prelude.{◌≡◌, ◌≢◌, ℕ, ◌+◌, ◌<◌, ◌≤◌, ◌^◌, ◌∷◌, ◌++◌, List, Option, IfOk, MatchBool, length, map};
 ghost use Rattle.order_keys.specs.Places.{packed_runs, packed_places, next_place, unpacked_places, register_place as held_of, held_in, packed_registers, unpacked_registers};
@@ -7,7 +7,7 @@ use crate::pack::Pack;
 use crate::unread::Unread;
 use std::alloc::AllocError;
 
-/// Appends what stands at a place behind this many empty ones, and returns how many empty ones are then not noted yet.
+/// Appends the contents of a place after this many empty ones, and returns how many empty ones are then not noted yet.
 #[inline(always)]
 #[tactic(auto, unfolding(crate::specs::Places::packed_runs))]
 fn pack_place(place: Option<u32>, empty: u64, key: &mut Vec<u8>) -> Result<u64, AllocError>
@@ -40,7 +40,7 @@ pub(crate) fn pack_places(places: &[Option<u32>], key: &mut Vec<u8>) -> Result<(
     Ok(())
 }
 
-/// A register as a place, which is empty where the value is 0.
+/// A register as a place, which is empty if the value is 0.
 #[inline(always)]
 fn held(value: u32) -> Option<u32>
     ensures { result ≡ held_of value }
@@ -62,7 +62,7 @@ pub(crate) fn pack_registers(regs: &[u32], key: &mut Vec<u8>) -> Result<(), Allo
     Ok(())
 }
 
-/// Takes what stands at a place, where this many empty ones come first.
+/// Reads the contents of a place, after this many empty ones.
 #[inline(always)]
 #[tactic(auto, unfolding(crate::specs::Places::next_place))]
 fn unpack_place(empty: &mut u64, key: &mut Unread<'_>) -> Option<u32>
@@ -78,8 +78,7 @@ fn unpack_place(empty: &mut u64, key: &mut Unread<'_>) -> Option<u32>
     }
 }
 
-/// Makes 32 places those at the front of what is left of a key, which it takes from there; or answers `false` where the key
-/// does not hold 32.
+/// Reads 32 places from the unread bytes of a key into these; or returns `false` if the key does not hold 32.
 #[tactic(auto, using(crate::proofs::PlacesRead::places_read), unfolding(crate::specs::Places::unpacked_places))]
 pub(crate) fn unpack_places(places: &mut [Option<u32>; 32], key: &mut Unread<'_>) -> bool
     ensures read { MatchBool result (record { value = places.new; left = key.new } ≡ unpacked_places key.old)
@@ -97,7 +96,7 @@ pub(crate) fn unpack_places(places: &mut [Option<u32>; 32], key: &mut Unread<'_>
     true
 }
 
-/// The value of a register that was a place.
+/// The value of a register that was read as a place.
 #[inline(always)]
 fn value_of(place: Option<u32>) -> u32
     ensures { result ≡ held_in place }
@@ -108,7 +107,7 @@ fn value_of(place: Option<u32>) -> u32
     }
 }
 
-/// Makes registers those that were places.
+/// Sets the registers to the values of these places.
 #[tactic(auto, using(crate::proofs::PlacesRead::values_read))]
 fn set_values(regs: &mut [u32; 32], places: &[Option<u32>; 32])
     ensures { regs.new ≡ map held_in places.now }
@@ -118,8 +117,8 @@ fn set_values(regs: &mut [u32; 32], places: &[Option<u32>; 32])
     }
 }
 
-/// Makes a register file the one at the front of what is left of a key, which it takes from there; or answers `false` where the
-/// key does not hold 32 registers.
+/// Reads a register file from the unread bytes of a key into this one; or returns `false` if the key does not hold 32
+/// registers.
 #[tactic(auto, using(crate::proofs::PlacesRead::registers_read), unfolding(crate::specs::Places::unpacked_registers))]
 pub(crate) fn unpack_registers(regs: &mut [u32; 32], key: &mut Unread<'_>) -> bool
     ensures { MatchBool result (record { value = regs.new; left = key.new } ≡ unpacked_registers key.old)

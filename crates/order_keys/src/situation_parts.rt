@@ -1,4 +1,4 @@
-//! States read from keys, each into the memory of another.
+//! States read from keys, each into the memory of another state.
 
 ghost use Rattle.std.specs.Prelude.{◌≡◌, ◌<◌, IfOk, MatchBool, length};
 ghost use Rattle.order_keys.specs.Lists.{unpacked_list};
@@ -16,7 +16,7 @@ use cf_bind::{Cell, End, Fetch};
 use order_model::{SidingOps, Situation};
 use std::alloc::{AllocError, Global};
 
-/// Makes sidings those at the front of what is left of a key, which it takes from there.
+/// Reads sidings from the unread bytes of a key into these.
 #[tactic(auto, unfolding(crate::specs::Situations::unpacked_sidings, crate::specs::Lists::unpacked_list))]
 fn unpack_sidings(
     alloc: Global,
@@ -35,8 +35,8 @@ fn unpack_sidings(
     Ok(())
 }
 
-/// Makes a lane the one at the front of what is left of a key, which it takes from there; or answers `false` where the lane of
-/// the key has more than 64 requests.
+/// Reads a lane from the unread bytes of a key into this one; or returns `false` if the lane of the key has more than
+/// 64 requests.
 #[tactic(auto, using(crate::proofs::ListSteps::long_list), unfolding(crate::specs::Lists::unpacked_list))]
 fn unpack_lane(lane: &mut ArrayVec<u8, 64>, key: &mut Unread<'_>) -> bool
     ensures { MatchBool result (record { value = lane.new.items; left = key.new } ≡ unpacked_list unpacked_byte key.old)
@@ -53,8 +53,8 @@ fn unpack_lane(lane: &mut ArrayVec<u8, 64>, key: &mut Unread<'_>) -> bool
     true
 }
 
-/// Makes stages, sidings and lane those at the front of what is left of a key, which it takes from there; or answers `false`
-/// where the lane of the key has more than 64 requests.
+/// Reads stages, sidings and lane from the unread bytes of a key into these; or returns `false` if the lane of the key
+/// has more than 64 requests.
 #[tactic(auto, unfolding(crate::specs::Situations::unpacked_pipes, crate::specs::Compounds::unpacked_triple))]
 fn unpack_pipes(
     alloc: Global,
@@ -74,8 +74,8 @@ fn unpack_pipes(
     Ok(unpack_lane(lane, key))
 }
 
-/// Makes fetch, cache and registers those at the front of what is left of a key, which it takes from there; or answers `false`
-/// where the cache or the registers of the key are not 32.
+/// Reads fetch, cache and registers from the unread bytes of a key into these; or returns `false` if the cache or the
+/// registers of the key are not 32.
 #[tactic(auto, unfolding(crate::specs::Situations::unpacked_fetching, crate::specs::Compounds::unpacked_triple))]
 fn unpack_fetching(
     fetch: &mut Fetch,
@@ -94,8 +94,8 @@ fn unpack_fetching(
     unpack_registers(regs, key)
 }
 
-/// Makes a state the one at the front of what is left of a key, which it takes from there; or answers `false` where the lane of
-/// the key has no room for its requests, or its cache or its registers are not 32.
+/// Reads a state from the unread bytes of a key into this one; or returns `false` if the lane of the key has more than
+/// 64 requests, or its cache or its registers are not 32.
 #[tactic(auto, unfolding(crate::specs::Situations::unpacked_situation, crate::specs::Situations::unpacked_past, crate::specs::Compounds::unpacked_triple, crate::specs::Compounds::unpacked_pair))]
 pub(crate) fn unpack_situation(
     alloc: Global,

@@ -1,4 +1,4 @@
-//! The stages of keys, read with where each stands.
+//! The stages of keys, read together with their positions.
 
 ghost use Rattle.std.specs.Prelude.{◌≡◌, IfOk};
 ghost use Rattle.order_keys.specs.Cells.{unpacked_cell};
@@ -11,8 +11,8 @@ use crate::unread::Unread;
 use cf_bind::Cell;
 use std::alloc::AllocError;
 
-/// Makes stages those at the front of what is left of a key, which it takes from there, and notes how many bytes are left behind
-/// their number, and behind each of them.
+/// Reads stages from the unread bytes of a key into these, and notes how many bytes are left after their number, and
+/// after each of them.
 #[tactic(auto, unfolding(crate::specs::Stages::lefts_of, crate::specs::Lists::unpacked_list))]
 pub(crate) fn unpack_stages(
     cells: &mut Vec<Cell>,

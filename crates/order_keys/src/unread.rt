@@ -1,11 +1,11 @@
-//! What is left of a key that is read from its front.
+//! The unread part of a key, which is read from its beginning.
 
 ghost use Rattle.std.specs.Prelude.{◌≡◌, length};
 ghost use Rattle.order_keys.specs.Numbers.{leading_byte, behind};
 
 use std::marker::Model;
 
-/// The bytes of a key that are not read yet.
+/// The bytes of a key that have not been read yet.
 #[derive(Drop)]
 pub(crate) struct Unread<'a> {
     left: &'a [u8],
@@ -20,14 +20,14 @@ impl<'a> Model for Unread<'a> {
 }
 
 impl<'a> Unread<'a> {
-    /// A key of which nothing is read yet.
+    /// A key of which nothing has been read yet.
     pub(crate) fn new(key: &'a [u8]) -> Unread<'a>
         ensures { result ≡ key.now }
     {
         Unread { left: key }
     }
 
-    /// How many bytes are not read yet.
+    /// How many bytes have not been read yet.
     #[inline(always)]
     pub(crate) fn count(&self) -> usize
         ensures { result ≡ length self.now }
@@ -35,7 +35,7 @@ impl<'a> Unread<'a> {
         self.left.len()
     }
 
-    /// The next byte, 0 where none is left; it stays unread.
+    /// The next byte, or 0 if none is left; it stays unread.
     #[inline(always)]
     #[tactic(auto, using(crate::proofs::Fronts::fronts))]
     pub(crate) fn next(&self) -> u8
@@ -47,7 +47,7 @@ impl<'a> Unread<'a> {
         }
     }
 
-    /// Reads the next byte, 0 where none is left.
+    /// Reads the next byte, or 0 if none is left.
     #[inline(always)]
     #[tactic(auto, using(crate::proofs::Fronts::fronts))]
     pub(crate) fn byte(&mut self) -> u8

@@ -53,7 +53,7 @@ waypoint_here isa loaded start k old new place a t p r c = record {
   next = is_next isa a.at old new place.next a.hart a.rest t;
 }
 
--- and then one step further
+-- and one step further
 after_next : (isa : Isa) (start x n : Machine) (k : ℕ) (line : Retired) → after isa start k ≡ Some x → step isa x ≡ Next n line →
     after isa start (suc k) ≡ Some n
 unfolding after
@@ -73,7 +73,7 @@ pub further : (isa : Isa) (start : Machine) (k n : ℕ) (old new : Hart) (next :
 further isa start k n old new (Retires line) a t e f = rw f (goes_after isa start k old new line a t)
 further isa start k n old new (Ends x) a t e f = absurd (cc)
 
--- one place more
+-- one more place
 pub more_places : (isa : Isa) (loaded : Memory) (start : Machine) (k n : ℕ) (places : List MachinePlace) (place : MachinePlace) →
     AreWaypoints isa loaded start k places →
     n ≡ k + length places → IsWaypoint isa loaded start n place → AreWaypoints isa loaded start k (places ++ place ∷ [])

@@ -1,4 +1,4 @@
--- A step of the machine where nothing is left of the input, and nothing fails.
+-- A step of the machine when nothing is left of the input, and nothing fails.
 use Rattle.std.proofs.Common.{◌≡◌, ℕ, ◌≤◌, List, [], Option, Some, sym, ap, ◌∙◌, arith}
 use Rattle.cf_io.specs.Causes.{HasCause, Rose}
 use Rattle.rv_inst.specs.declared.isa.Isa.{Isa}

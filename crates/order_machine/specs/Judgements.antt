@@ -1,4 +1,4 @@
--- Whether the pipes end or rest as the sequential machine does.
+-- Whether the pipes end or rest in the same way as the sequential machine.
 use Rattle.std.specs.Prelude.{◌≡◌, ℕ, List}
 use Rattle.cf_bind.specs.declared.packet.Fetch.{Fetch}
 use Rattle.cf_bind.specs.declared.packet.Fetch.TheVariants.{Running}
@@ -11,7 +11,7 @@ use Rattle.order_machine.specs.Waypoints.{MachinePlace}
 abbrev pub HasStateOf : MachinePlace → List ℕ → MemoryChanges → Type 0
 HasStateOf place regs changes = (regs ≡ place.regs) × (changes ≡ place.changes)
 
--- the program ended as the step ends it, with the machine's registers and memory
+-- the program ended in the same way as in the step, with the machine's registers and memory
 abbrev pub EndsWithState : MachinePlace → End → List ℕ → MemoryChanges → Type 0
 EndsWithState place e regs changes = (place.next ≡ Ends e) × HasStateOf place regs changes
 

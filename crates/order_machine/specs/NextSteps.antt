@@ -1,4 +1,4 @@
--- What the next step of the sequential machine does, where nothing is left of the input.
+-- What the next step of the sequential machine does when nothing is left of the input.
 use Rattle.std.specs.Prelude.{◌≡◌, ℕ, List, []}
 use Rattle.mem_regions.specs.Memory.{Memory}
 use Rattle.rv_inst.specs.declared.isa.Isa.{Isa}
@@ -33,7 +33,7 @@ abbrev pub IsStepMade : Isa → Hart → Hart → NextStep → Type 0
 IsStepMade isa old new (Retires line) = StepsOn isa old new line
 IsStepMade isa old new (Ends e) = EndsThere isa old new e
 
--- the same of what a step of the machine answers; its streams cannot fail
+-- the same for the answer of a step of the machine; its streams cannot fail
 abbrev pub IsAnswered : Isa → Hart → Hart → Stepped → Type 0
 IsAnswered isa old new (stepped_.Next line) = StepsOn isa old new line
 IsAnswered isa old new (stepped_.Trap cause pc detail) = EndsThere isa old new (ending.Trap cause pc detail)
@@ -41,7 +41,7 @@ IsAnswered isa old new (stepped_.Exit status) = EndsThere isa old new (ending.Ex
 IsAnswered isa old new stepped_.ReadFault = ⊥
 IsAnswered isa old new stepped_.WriteFault = ⊥
 
--- memory after the step: one that ends the program leaves it as it was
+-- memory after the step: a step that ends the program leaves memory as it was
 abbrev pub memory_next : NextStep → Fetched → List ℕ → Memory → Memory
 memory_next (Retires line) (Got i) regs mem = memory_stepped i (value_read regs (src1_of i)) (value_read regs (src2_of i)) regs mem
 memory_next (Retires line) (Bad e) regs mem = mem

@@ -13,7 +13,7 @@ use Rattle.mem_changes.specs.Differing.{AreChangesOf}
 use Rattle.order_machine.specs.declared.stepping.NextStep.{NextStep}
 use Rattle.order_machine.specs.declared.stepping.NextStep.TheVariants.{Retires, Ends}
 
--- where the machine is, its registers, how its memory differs from the loaded one, and what its next step does
+-- where the machine is, its registers, how its memory differs from the loaded memory, and what its next step does
 pub record MachinePlace : Type 0 where
   pub pc : ℕ
   pub regs : List ℕ

@@ -1,4 +1,4 @@
-//! Whether the pipes end or rest as the sequential machine does.
+//! Whether the pipes end or rest in the same way as the sequential machine.
 
 ghost use Rattle.std.specs.Prelude.{◌≡◌, ◌↔◌, IsTrue};
 ghost use Rattle.cf_bind.specs.declared.packet.Fetch.TheVariants as fetch_does;
@@ -17,7 +17,7 @@ fn same_end(end: End, other: End) -> bool
     end == other
 }
 
-/// Whether the step ends the program so.
+/// Whether the step ends the program in this way.
 fn ends_by(next: NextStep, end: End) -> bool
     ensures { IsTrue result ↔ (next ≡ next_step.Ends end) }
 {
@@ -45,7 +45,7 @@ impl Waypoint {
         *regs == self.regs && changes.same(&self.changes)
     }
 
-    /// Whether the next step ends the program so, with these registers and this memory.
+    /// Whether the next step ends the program in this way, with these registers and this memory.
     pub fn ends_as(&self, end: End, regs: &[u32; 32], changes: &Changes) -> bool
         ensures { IsTrue result ↔ EndsWithState self.now end regs.now changes.now }
     {

@@ -45,7 +45,7 @@ impl Waypoint {
     }
 }
 
-/// Where the machine is, and what its next step does, which is made.
+/// Where the machine is, and what its next step does; the step is made.
 fn pass(
     alloc: Global,
     isa: Isa,
@@ -74,7 +74,7 @@ fn pass(
     })
 }
 
-/// The places of the machine before its first step, after one step, and so on, up to as many steps, or up to the step
+/// The places of the machine before its first step, after one step, and so on, up to this many steps, or up to the step
 /// that ends the program. Nothing is left of the input.
 #[tactic(auto, using(crate::proofs::Passed::passing))]
 pub fn waypoints(

@@ -1,4 +1,4 @@
-//! One step of the sequential machine, where nothing is left of the input, with what it does to memory.
+//! One step of the sequential machine, when nothing is left of the input, and what the step does to memory.
 
 ghost use Rattle.std.specs.Prelude.{◌≡◌, ◌+◌, ◌<◌, ◌≤◌, ◌^◌, IfOk};
 ghost use Rattle.cf_passengers.specs.Issuing.{meant};
@@ -54,7 +54,7 @@ fn take(isa: Isa, machine: &mut Machine) -> NextStep
     }
 }
 
-/// The value of a source; 0 where there is none.
+/// The value of a source; 0 if there is none.
 fn source_value(regs: &[u32; 32], reg: u8) -> u32
     ensures { result ≡ value_read regs.now (register reg) }
 {
@@ -67,7 +67,7 @@ fn source_value(regs: &[u32; 32], reg: u8) -> u32
     }
 }
 
-/// Takes in what an instruction that retires does to memory.
+/// Records what an instruction that retires does to memory.
 #[tactic(auto, unfolding(cf_semantics::specs::moves::Instructions::src1_of, cf_semantics::specs::moves::Instructions::src2_of))]
 fn note_retired(
     alloc: Global,
@@ -92,7 +92,7 @@ fn note_retired(
     note_step(alloc, image, changes, step, regs)
 }
 
-/// Takes in what the step does to memory.
+/// Records what the step does to memory.
 fn note_next(
     alloc: Global,
     image: &Image,
@@ -113,7 +113,7 @@ fn note_next(
     }
 }
 
-/// Makes one step, and takes in what it does to memory.
+/// Makes one step, and records what it does to memory.
 #[tactic(auto, using(crate::proofs::Remembered::remembering))]
 pub(crate) fn advance(
     alloc: Global,

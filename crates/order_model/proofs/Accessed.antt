@@ -1,4 +1,4 @@
--- What an operation at the end of a siding does, and who takes it back.
+-- What an operation at the end of a siding does, and which instruction takes it back.
 use Rattle.std.proofs.Common.{◌≡◌, ◌≢◌, ℕ, zero, suc, ◌+◌, List, [], ◌∷◌, Bool, true, false, Option, Some, None, refl, ap}
 use Rattle.std.specs.Prelude.{slice_get, slice_set, if◌then◌else◌, find, ◌&&◌, IfNone, IsTrue}
 use Rattle.rv_mul.specs.Values.{computes}
@@ -26,7 +26,7 @@ use Rattle.order_rules.specs.declared.rule.Rule.TheVariants.{LaunchDead, Execute
 use Rattle.order_rules.specs.Rules.{rule_holds}
 use Rattle.order_model.specs.RuleMoves.{answer_without, sources_without}
 
--- no byte is the number 0
+-- reading no bytes gives the number 0
 empty_number : (mem : Memory) → number (load_at mem 0 0) ≡ 0
 unfolding load_at range_of
 empty_number mem = go (find (lies_in 0 0) mem.areas) where
@@ -71,7 +71,7 @@ no_access (Mul op rd rs1 rs2) a b mem h = refl
 
 pub ruleset accessing = (no_answer, no_access)
 
--- a cell's contents go to the next one
+-- a cell's contents move to the next one
 pub slid_twice : (sidings : List (List (Option Op))) (k c : ℕ) (q : Option Op) →
     slice_set (slice_set sidings k (slice_set (on (slice_get sidings k) [] (λ ops. ops)) c None)) k
     (slice_set (on (slice_get (slice_set sidings k (slice_set (on (slice_get sidings k) [] (λ ops. ops)) c None)) k) [] (λ ops. ops)) (c + 1) q)
@@ -87,7 +87,7 @@ unfolding moved
 slides plan s mem k c op a b e f g = rw g (rw f (rw e (ap (λ (l : List (List (Option Op))). record (in_memory s mem) { sidings = l })
     (slid_twice s.sidings k c op))))
 
--- an instruction is of the same class with other source values
+-- an instruction with other source values is of the same class
 pub same_kind : (away : Option Rule) (p : Passenger) (op : Op) → kind (sources_without away p op) ≡ kind p
 same_kind away p op = go (rule_holds away LaunchDead) (rule_holds away ExecuteDead) where
   go : (a b : Bool) → kind (if a && b then p else record p { src1 = with_value op.a p.src1; src2 = with_value op.b p.src2 }) ≡ kind p

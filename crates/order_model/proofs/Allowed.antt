@@ -1,4 +1,4 @@
--- What an allowed move can rest on.
+-- What can be concluded from a move being allowed.
 use Rattle.std.proofs.Common.{◌≡◌, ℕ, ◌+◌, ◌≤◌, Bool, true, false, Option, Some, None, length, refl, arith, sym}
 use Rattle.std.specs.Prelude.{IfNone, IsTrue, not, nat_lt, ◌&&◌, ◌||◌, max, ◌*◌, if◌then◌else◌}
 use Rattle.std.proofs.lemmas.Bool.Decides.{nat_tests}
@@ -26,7 +26,7 @@ use Rattle.order_rules.specs.Rules.{rule_holds}
 use Rattle.order_model.specs.RuleBars.{lane_room, bar_without, row_bar_without, issue_bar_without, execute_bar_without, recover_bar_without, exit_op_bar_without, source_bar_under}
 use Rattle.order_model.specs.RuleMoves.{answer_without}
 
--- where no test holds, the last does not, and what follows gives no bar
+-- if no test holds, the last does not, and what follows gives no bar
 last_fails : (a b t : Bool) (x y z : Bar) (rest : Option Bar) → first a x (first b y (first t z rest)) ≡ None → (t ≡ false) × (rest ≡ None)
 last_fails false false false x y z rest e = (refl, e)
 last_fails true b t x y z rest e = absurd (cc)
@@ -51,7 +51,7 @@ small_room away plan a = go (rule_holds away IssueLaneFull) where
   go true = a.lane.1
   go false = let l = a.lane.1 in let n = a.stages.1 in omega arith
 
--- the requests of an instruction that is issued fit
+-- there is room for the requests of an issued instruction
 pub issue_room : (away : Option Rule) (plan : Plan) (s : State) (g : Guess) (c : Cell) (pc : ℕ) → IsEquipped plan →
     row_bar_without away plan s (Issue g) ≡ None → cell_at s.cells 1 ≡ Some c → running s.fetch ≡ Some pc →
     length s.lane + length (requests (fresh s.cache (fetched (isa_of plan) s.mem pc) pc g)) ≤ 64
@@ -68,7 +68,7 @@ has_unit : (b : Bool) → not b ≡ false → b ≡ true
 has_unit true e = refl
 has_unit false e = cc
 
--- an instruction that is executed computes
+-- an instruction that is executed is one that computes
 pub execute_computes : (away : Option Rule) (plan : Plan) (s : State) (i : ℕ) (c : Cell) (p : Passenger) → IsEquipped plan →
     row_bar_without away plan s (Execute i) ≡ None → cell_at s.cells i ≡ Some c → c.passenger ≡ Some p → IsTrue (computes (kind p))
 execute_computes away plan s i c p a e h f =
@@ -94,7 +94,7 @@ answered_or_computes away plan p k op a h e = go (rule_holds away RecoverNotDone
   go false false m None e = equipped-siding plan (kind p) k a h (sym m)
   go false false m (Some v) e = tt
 
--- an instruction that takes its operation back has an answer, or it computes
+-- an instruction that takes its operation back has an answer, or is one that computes
 pub recover_computes : (away : Option Rule) (plan : Plan) (s : State) (i : ℕ) (c : Cell) (p : Passenger) (k : ℕ) (op : Op) → IsEquipped plan →
     row_bar_without away plan s (Recover i) ≡ None → cell_at s.cells i ≡ Some c → c.passenger ≡ Some p →
     siding_of plan (kind p) ≡ Some k → last_op (siding_at s k) ≡ Some op →

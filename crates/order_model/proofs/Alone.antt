@@ -1,4 +1,4 @@
--- What the environment answers where nothing is left of the input.
+-- The answer of the environment when nothing is left of the input.
 use Rattle.std.proofs.Common.{◌≡◌, ℕ, ◌≤◌, List, [], Some, None, refl, arith}
 use Rattle.cf_io.specs.Causes.{HasCause, Rose}
 use Rattle.mem_regions.specs.Memory.{Memory}
@@ -69,7 +69,7 @@ no_write_fault (called.Exit status) e = cc
 
 pub ruleset answering = (answers_value, answers_exit, no_read_fault, no_write_fault)
 
--- Serve leaves the instruction as it is answered, and the memory of the call
+-- Serve leaves the answered instruction and the memory of the call
 served_state : (m : Moment) (n : ℕ) (c : Cell) (p : Passenger) (o : Called) →
     (served m n c p o).state ≡ record (with_cell m.state n (with_passenger c (passenger_served o p))) { mem = memory_served o m.state.mem }
 served_state m n c p (called.Value a) = refl

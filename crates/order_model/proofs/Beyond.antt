@@ -20,7 +20,7 @@ pub put_above : (cells : List Cell) (i : ℕ) (c : Cell) → length cells < i �
 put_above cells zero c h = refl
 put_above cells (suc k) c h = set_past cells k c (omega arith)
 
--- new cells that are the old
+-- new cells that are the same as the old ones
 pub same_siding : (sidings : List (List (Option Op))) (k : ℕ) → slice_set sidings k (on (slice_get sidings k) [] (λ ops. ops)) ≡ sidings
 same_siding [] k = refl
 same_siding (ops ∷ sidings) zero = refl
@@ -34,7 +34,7 @@ last_of_none (o ∷ ops) q e = absurd (omega arith)
 pub cache_past : (cache : List (Option ℕ)) (r : ℕ) (v : Option ℕ) → length cache ≡ 32 → 32 ≤ r → slice_set cache r v ≡ cache
 cache_past cache r v e h = set_past cache r v (omega arith)
 
--- a cell of a siding that is not there
+-- a cell of a siding that does not exist
 pub op_past : (sidings : List (List (Option Op))) (k c : ℕ) (q : Option Op) → length (on (slice_get sidings k) [] (λ ops. ops)) ≤ c →
     slice_set sidings k (slice_set (on (slice_get sidings k) [] (λ ops. ops)) c q) ≡ sidings
 op_past sidings k c q h = rw (set_past (on (slice_get sidings k) [] (λ ops. ops)) c q h) (same_siding sidings k)
@@ -44,7 +44,7 @@ pub last_past : (sidings : List (List (Option Op))) (k : ℕ) (q : Option Op) �
     slice_set sidings k (set_last (on (slice_get sidings k) [] (λ ops. ops)) q) ≡ sidings
 last_past sidings k q h = rw (last_of_none (on (slice_get sidings k) [] (λ ops. ops)) q (omega arith)) (same_siding sidings k)
 
--- a siding with a cell is there
+-- a siding with a cell exists
 pub siding_within : (sidings : List (List (Option Op))) (k c : ℕ) → c < length (on (slice_get sidings k) [] (λ ops. ops)) → k < length sidings
 siding_within [] k c h = absurd (omega arith)
 siding_within (ops ∷ sidings) zero c h = omega arith

@@ -1,4 +1,4 @@
--- Empty sidings, one after the other.
+-- Empty sidings, one after another.
 use Rattle.std.proofs.Common.{◌≡◌, ℕ, zero, suc, ◌+◌, ◌<◌, List, [], ◌∷◌, ◌++◌, None, length, map, take, replicate, refl, ap, arith}
 use Rattle.cf_layout.specs.Layout.{Plan, no_siding, cells_of}
 use Rattle.cf_semantics.specs.runs.Runs.{empty_siding}

@@ -1,4 +1,4 @@
--- What taking a rule away does to the bars: each is the table's, or the table's is that of a rule taken away.
+-- How taking a rule away affects the bars: each bar is the table's, or the table's bar is that of a rule taken away.
 use Rattle.std.proofs.Common.{◌≡◌, ℕ, ◌+◌, Bool, true, false, Option, Some, None, refl, sym, ap, arith, ◌⊎◌, inl, inr, ◌∙◌, length}
 use Rattle.std.specs.Prelude.{nat_eq, nat_lt, not, ◌&&◌, if◌then◌else◌, max, ◌*◌, ◌-◌, ◌||◌, slice_get}
 use Rattle.std.proofs.lemmas.Bool.Decides.{nat_tests}

@@ -8,7 +8,7 @@ use Rattle.cf_bind.specs.declared.moves.Move.{Move}
 use Rattle.cf_bind.specs.declared.moves.Move.TheVariants.{Issue, Emit, Climb, Fall, Meet, Execute, Send, Launch, Slide, Access, Recover, Leave, Exit, Serve}
 use Rattle.cf_semantics.specs.moves.Candidates.{all_moves, at_stages, counted_from, slides_from}
 
--- one move more of a kind
+-- one more move of a kind
 counted_next : (f : ℕ → Move) (first n k : ℕ) → k ≡ suc n → map f (counted_from first k) ≡ map f (counted_from first n) ++ f (first + n) ∷ []
 counted_next f first zero k e = rw e (ap (λ (i : ℕ). f i ∷ []) (omega arith))
 counted_next f first (suc n) k e = rw e (ap (λ (l : List Move). f first ∷ l) (counted_next f (suc first) n (suc n) refl
@@ -21,7 +21,7 @@ counted_more f first n m e = counted_next f first n (n + 1) (omega arith) ∙ ap
 pub grown : (start now new a b c : List Move) → now ≡ start ++ a → new ≡ now ++ b → c ≡ a ++ b → new ≡ start ++ c
 grown start now new a b c e f g = f ∙ ap (λ (l : List Move). l ++ b) e ∙ append_assoc start a b ∙ ap (λ (l : List Move). start ++ l) (sym g)
 
--- the moves within one siding more
+-- the moves within one more siding
 slides_take : (first : ℕ) (sidings : List SidingPlan) (k n : ℕ) (d : SidingPlan) → n ≡ suc k → k < length sidings → slides_from first (take n sidings)
     ≡ slides_from first (take k sidings) ++ map (Slide (first + k)) (counted_from 0 ((unwrap_or (slice_get sidings k) d).cells - 1))
 slides_take first [] k n d e h = absurd (omega arith)

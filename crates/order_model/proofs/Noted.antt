@@ -1,4 +1,4 @@
--- What a call of the environment does to memory where nothing is left of the input: only the break is moved.
+-- How a call of the environment affects memory when nothing is left of the input: only the break is moved.
 use Rattle.std.proofs.Common.{◌≡◌, ◌≢◌, ℕ, ◌-◌, ◌≤◌, ◌+◌, List, [], ◌∷◌, ◌++◌, Bool, true, false, Option, Some, None, length, take, drop, refl, sym, ap, ◌∙◌, arith}
 use Rattle.std.specs.Prelude.{◌==◌, if◌then◌else◌, not, slice_index, min}
 use Rattle.std.proofs.lemmas.List.{append-nil, take-append-drop, take_all}
@@ -53,7 +53,7 @@ write_keeps fd addr len mem = go (not (is_output fd)) (len == 0) (range_of mem a
   go false false None = refl
   go false false (Some bytes) = refl
 
--- a call with another number than that of brk
+-- a call with a number other than that of brk
 pub other_keeps : (regs : List ℕ) (mem : Memory) → slice_index regs 17 ≢ 214 → mem ≡ memory_served (call regs mem []) mem
 unfolding call
 other_keeps regs mem h = sym (go (call_number regs == 63) (call_number regs == 64) (is_exit (call_number regs)) (call_number regs == 214) refl) where
@@ -79,7 +79,7 @@ breaks_not : (addr : ℕ) (mem : Memory) → is_break addr ≡ false → with_br
 unfolding with_break
 breaks_not addr mem e = rw e refl
 
--- brk moves the break where it may
+-- brk moves the break if it may
 pub break_moves : (regs : List ℕ) (mem : Memory) → slice_index regs 17 ≡ 214 → 0x7f000000 ≤ slice_index regs 10 → slice_index regs 10 ≤ 0x7f080000 →
     record mem { program_break = slice_index regs 10 } ≡ memory_served (call regs mem []) mem
 break_moves regs mem e l u = sym (is_brk regs mem e ∙ breaks (slice_index regs 10) mem (grind (arith, nat_tests)))

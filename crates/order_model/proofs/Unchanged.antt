@@ -1,4 +1,4 @@
--- With no rule taken away the table is unchanged.
+-- If no rule is taken away, the table is unchanged.
 use Rattle.std.proofs.Common.{◌≡◌, ℕ, Option, Some, None, refl, ap}
 use Rattle.cf_layout.specs.Layout.{Plan}
 use Rattle.cf_bind.specs.declared.binding.Binding.{Binding}

@@ -54,7 +54,7 @@ is_write : (regs : List ℕ) (mem : Memory) → slice_index regs 17 ≡ 64 →
 unfolding call
 is_write regs mem e = rw e refl
 
--- what a write to the output adds: the bytes of its buffer, where it lies in memory
+-- what a write to the output adds: the bytes of its buffer, if it is in memory
 write_adds : (addr len : ℕ) (mem : Memory) (o : Bool) → output_added (if not o then answered_alone bad_file mem [] else
     if len == 0 then answered_alone 0 mem [] else write_from (range_of mem addr len) len mem []) ≡ if o
     then (if len == 0 then [] else on (range_of mem addr len) [] (λ bytes. bytes)) else []
@@ -75,7 +75,7 @@ written_adds regs mem o e f = rw (is_write regs mem e, ← f) (write_adds (secon
 pub adds_nowhere : (regs : List ℕ) (mem : Memory) → slice_index regs 17 ≡ 64 → false ≡ is_output (slice_index regs 10) → output_added (call regs mem []) ≡ []
 adds_nowhere regs mem e f = written_adds regs mem false e f
 
--- no byte lies in an empty range
+-- no byte is in an empty range
 none_there : (len : ℕ) (bytes : List ℕ) (r : Option (List ℕ)) → r ≡ Some bytes → length bytes ≡ len → (if len == 0 then [] else on r [] (λ b. b)) ≡ bytes
 none_there len bytes r e h = rw e (go (len == 0) refl bytes h) where
   go : (z : Bool) → z ≡ (len == 0) → (bytes : List ℕ) → length bytes ≡ len → (if z then [] else bytes) ≡ bytes

@@ -1,6 +1,6 @@
--- The table of moves without a rule, first half: what bars each move. Only the rows that a rule changes are written
--- again, each as in the table; a test that counts only while its rule is kept says so, and a rule that is not in a row
--- does not change it.
+-- The table of moves without a rule, first half: what bars each move. Only the rows that a rule changes are repeated,
+-- each as in the table; a test that counts only while its rule holds says so, and a rule that is not in a row does not
+-- change it.
 use Rattle.std.specs.Prelude.{ℕ, ◌+◌, ◌*◌, ◌-◌, max, [], ◌∷◌, Option, Some, None, Bool, ◌&&◌, ◌||◌, not, length, nat_lt, if◌then◌else◌}
 use Rattle.cf_layout.specs.Layout.{Plan, siding_of, unit_at}
 use Rattle.cf_bind.specs.declared.cell.Cell.{Cell}
@@ -20,7 +20,7 @@ use Rattle.order_rules.specs.declared.rule.Rule.{Rule}
 use Rattle.order_rules.specs.declared.rule.Rule.TheVariants.{IssueLaneFull, ClimbNotMet, ClimbOwes, ClimbNotDone, FallNotMet, ExecuteSourceMissing, ExecuteDead, LaunchDead, LaunchNotMet, LaunchSourceMissing, RecoverNotDone, LeaveNotMet, LeaveOwes, LeaveNotDone, ExitNotMet, ServeNotMet}
 use Rattle.order_rules.specs.Rules.{rule_holds}
 
--- issue:LaneFull: how many requests the lane holds; without the rule at least two for each stage
+-- issue:LaneFull: how many requests the lane can hold; without the rule at least two for each stage
 abbrev pub lane_room : Option Rule → Plan → ℕ
 lane_room away plan = if rule_holds away IssueLaneFull then plan.lane else max plan.lane (2 * plan.stages)
 
@@ -45,7 +45,7 @@ fall_bar_without away c below = on below (Some NoSuchSite) (λ d. first_bar_of (
     (rule_holds away FallNotMet && is_full c, NotMet) ∷
     (is_some d.packet, Occupied) ∷ []) None)
 
--- the bar of a source without a value, where the rule is kept
+-- the bar of a source without a value, if the rule is kept
 abbrev pub source_bar_under : Bool → Passenger → Option Bar → Option Bar
 source_bar_under keeps p rest = if keeps then source_bar p rest else rest
 
@@ -91,7 +91,7 @@ serve_bar_without away c = of_passenger c (λ p. first_bar_of (
     (not (is_serial (kind p)), NoUnit) ∷
     (rule_holds away ServeNotMet && is_full c, NotMet) ∷ []) None)
 
--- the row of a move; one that no rule changes is the table's
+-- the row of a move; a row that no rule changes is the table's
 abbrev pub row_bar_without : Option Rule → Plan → State → Move → Option Bar
 row_bar_without away plan s (Issue g) = at s.cells 1 (issue_bar_without away plan s g)
 row_bar_without away plan s (Climb i) = at s.cells i (λ c. climb_bar_without away plan c i (cell_at s.cells (i + 1)))
@@ -104,7 +104,7 @@ row_bar_without away plan s Exit = at s.cells 1 (exit_bar_without away)
 row_bar_without away plan s Serve = at s.cells plan.stages (serve_bar_without away)
 row_bar_without away plan s mv = row_bar plan s mv
 
--- the first bar of a move, or none where it is allowed
+-- the first bar of a move, or none if it is allowed
 unfoldable pub bar_without : Option Rule → Plan → State → Move → Option Bar
 bar_without away plan s mv = first_bar_of ((is_some s.ending, Halted) ∷ (s.failed, Failed) ∷ []) (row_bar_without away plan s mv)
 

@@ -10,7 +10,7 @@ use Rattle.order_rules.specs.declared.rule.Rule.{Rule}
 use Rattle.order_model.specs.RuleBars.{bar_without, rule_of_bar}
 use Rattle.order_model.specs.RuleMoves.{next_without}
 
--- with no rule taken away the bars are those of the table
+-- if no rule is taken away, the bars are those of the table
 abbrev pub HasTheBars : Type 0
 HasTheBars = (plan : Plan) (s : State) (mv : Move) → bar_without None plan s mv ≡ bar plan s mv
 
@@ -22,7 +22,7 @@ HasTheMoves = (plan : Plan) (m : Moment) (mv : Move) → next_without None plan 
 abbrev pub BarsNoMore : Type 0
 BarsNoMore = (away : Option Rule) (plan : Plan) (s : State) (mv : Move) → bar plan s mv ≡ None → bar_without away plan s mv ≡ None
 
--- where a move is allowed only without the rule, the bar of the table is that rule's
+-- if a move is allowed only without the rule, the bar of the table is that rule's
 abbrev pub IsBarredByTheRule : Type 0
 IsBarredByTheRule = (rule : Rule) (plan : Plan) (s : State) (mv : Move) (b : Bar) →
     bar plan s mv ≡ Some b → bar_without (Some rule) plan s mv ≡ None → rule_of_bar mv b ≡ Some rule

@@ -1,5 +1,5 @@
 -- The table of moves without a rule, second half: what each move does, and what it shows. Only the rows that a rule
--- changes are written again. A source without a value counts as 0 in the table's own rows.
+-- changes are repeated. A source without a value counts as 0 in the table's own rows.
 use Rattle.std.specs.Prelude.{ℕ, Option, Some, None, Bool, true, false, ◌==◌, ◌&&◌, ◌||◌, not, if◌then◌else◌}
 use Rattle.cf_layout.specs.Layout.{Plan, siding_of}
 use Rattle.cf_bind.specs.declared.binding.Binding.{Binding}
@@ -50,7 +50,7 @@ packet_met_without away (Value r v) p = passed_without away r v p.dst
 packet_met_without away (Turn pc) p = Some (Turn pc)
 packet_met_without away Halt p = Some Halt
 
--- what a meeting leaves, a step taken away or not; a dead instruction changes nothing, and is not changed
+-- what a meeting leaves, with or without a step taken away; a dead instruction changes nothing, and is not changed
 unfoldable pub meeting_without : Option Rule → Passenger → Packet → Met
 meeting_without away p k = if p.dead
     then record { passenger = p; packet = Some k }
@@ -95,7 +95,7 @@ is_of_memory Access = true
 is_of_memory Serve = true
 is_of_memory mv = false
 
--- the moment after an allowed move; Serve is the table's, whatever rule is taken away
+-- the moment after an allowed move; Serve is the table's, whichever rule is taken away
 unfoldable pub next_without : Option Rule → Plan → Moment → Move → Moment
 next_without away plan m (Meet i) = record m { state = moved_without away plan m.state (Meet i) }
 next_without away plan m (Recover i) = record m { state = moved_without away plan m.state (Recover i) }

@@ -1,4 +1,4 @@
--- What Serve makes of the answer of the environment.
+-- What Serve does with the answer of the environment.
 use Rattle.std.specs.Prelude.{ℕ, List, [], Some, true}
 use Rattle.mem_regions.specs.Memory.{Memory}
 use Rattle.rv_machine.specs.Call.{Called}
@@ -14,7 +14,7 @@ abbrev pub told : Called → Served
 told (called.Value a) = served.Value a.value
 told (called.Exit status) = served.Exit status
 
--- memory after the call; one that ends the program leaves it as it was
+-- memory after the call; a call that ends the program leaves memory as it was
 abbrev pub memory_served : Called → Memory → Memory
 memory_served (called.Value a) mem = a.mem
 memory_served (called.Exit status) mem = mem
@@ -24,7 +24,7 @@ abbrev pub output_added : Called → List ℕ
 output_added (called.Value a) = a.output
 output_added (called.Exit status) = []
 
--- the instruction once it is answered; or it ends the program when it leaves
+-- the instruction after it is answered; or it ends the program when it leaves
 abbrev pub passenger_served : Called → Passenger → Passenger
 passenger_served (called.Value a) p = answered p a.value
 passenger_served (called.Exit status) p = record p { done = true; ending = Some (ending.Exit status) }

@@ -1,4 +1,4 @@
--- What a step of the sequential machine leaves of memory, where nothing is left of the input.
+-- The memory after a step of the sequential machine, when nothing is left of the input.
 use Rattle.std.specs.Prelude.{ℕ, List, []}
 use Rattle.mem_regions.specs.Memory.{Memory}
 use Rattle.rv_inst.specs.declared.classes.Class.{Class}
@@ -13,6 +13,6 @@ memory_by_class class.Memory i a b regs mem = mem_after i a b mem
 memory_by_class class.Serial i a b regs mem = memory_served (serve_of i regs mem []) mem
 memory_by_class _ i a b regs mem = mem
 
--- the same of an instruction
+-- the same for an instruction
 unfoldable pub memory_stepped : Instr → ℕ → ℕ → List ℕ → Memory → Memory
 memory_stepped i a b regs mem = memory_by_class (kind_of i) i a b regs mem

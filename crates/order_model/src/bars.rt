@@ -74,7 +74,7 @@ pub(crate) fn port(layout: &LooseLayout) -> usize
     }
 }
 
-/// How many requests the lane holds; without its rule at least two for each stage.
+/// How many requests the lane can hold; without its rule at least two for each stage.
 #[inline(always)]
 fn lane_room(away: Option<Rule>, layout: &LooseLayout) -> u32
     ensures { result ≡ room_of away layout.now }
@@ -86,7 +86,7 @@ fn lane_room(away: Option<Rule>, layout: &LooseLayout) -> u32
     }
 }
 
-/// The bar of the first source without a value, where the rule is kept.
+/// The bar of the first source without a value, if the rule is kept.
 #[inline(always)]
 fn source_bar(keeps: bool, passenger: &Passenger) -> Option<Bar>
     ensures { result ≡ source_bar_under keeps passenger.now None }
@@ -267,7 +267,7 @@ impl Situation {
         }
     }
 
-    /// The last two tests in the row of Launch: the sources, where the rule is kept, and the siding.
+    /// The last two tests in the row of Launch: the sources, if the rule is kept, and the siding.
     #[inline(always)]
     fn ready_bar(
         &self,
@@ -444,7 +444,7 @@ impl Situation {
         ])
     }
 
-    /// What bars the move, by its row.
+    /// The bar of the move, by its row.
     #[inline(always)]
     fn row_bar(
         &self,
@@ -473,7 +473,7 @@ impl Situation {
         }
     }
 
-    /// What bars the move in this state with this memory, where a rule may be taken away. Nothing is allowed once the
+    /// The bar of the move in this state with this memory, where a rule may be taken away. Nothing is allowed after the
     /// program has ended.
     #[tactic(auto, unfolding(crate::specs::RuleBars::bar_without))]
     pub fn bar(

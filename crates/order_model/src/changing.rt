@@ -1,4 +1,4 @@
-//! Moves in a memory whose changes are kept beside it.
+//! Moves in a memory whose changes are stored separately.
 
 ghost use Rattle.std.specs.Prelude.{◌≡◌, ◌+◌, ◌<◌, ◌^◌, [], IfOk, None, Option, true};
 ghost use Rattle.cf_bind.specs.declared.moves.Move.TheVariants as mv;
@@ -28,7 +28,7 @@ use mem_regions::Regions;
 use rv_inst::{Class, Instr, access_of, class_of};
 use std::alloc::{AllocError, Global};
 
-/// Takes in what an operation does to memory.
+/// Records what an operation does to memory.
 #[tactic(auto, using(crate::proofs::Accessed::accessing), unfolding(cf_semantics::specs::moves::Instructions::mem_after))]
 fn note_access(
     alloc: Global,
@@ -50,7 +50,7 @@ fn note_access(
     changes.store(alloc, image, access.addr, access.width, access.value)
 }
 
-/// Takes in what a call of the environment does to memory, where nothing is left of the input.
+/// Records what a call of the environment does to memory, when nothing is left of the input.
 #[tactic(auto, using(crate::proofs::Noted::calling))]
 fn note_call(regs: &[u32; 32], image: &Image, changes: &mut Changes)
     requires { AreChanges image.now changes.old }
@@ -63,7 +63,7 @@ fn note_call(regs: &[u32; 32], image: &Image, changes: &mut Changes)
     }
 }
 
-/// Takes in what FENCE.I, or a call of the environment, does to memory. Nothing is left of the input.
+/// Records what FENCE.I, or a call of the environment, does to memory. Nothing is left of the input.
 #[tactic(auto, unfolding(cf_semantics::specs::moves::Instructions::serve_of))]
 pub fn note_serial(
     alloc: Global,
@@ -85,8 +85,8 @@ pub fn note_serial(
     }
 }
 
-/// Takes in what a step of the sequential machine does to memory: the instruction, the values of its sources, and the
-/// registers. Nothing is left of the input.
+/// Records what a step of the sequential machine does to memory, given the instruction, the values of its sources, and
+/// the registers. Nothing is left of the input.
 #[tactic(auto, unfolding(crate::specs::StepEffects::memory_stepped, cf_semantics::specs::moves::Instructions::kind_of))]
 pub fn note_step(
     alloc: Global,
@@ -108,7 +108,7 @@ pub fn note_step(
 }
 
 impl Situation {
-    /// Takes in what Access does to memory.
+    /// Records what Access does to memory.
     #[tactic(auto, unfolding(cf_semantics::specs::moves::Moves::moved))]
     fn note_port(
         &self,
@@ -128,7 +128,7 @@ impl Situation {
         }
     }
 
-    /// Takes in what Serve does to memory.
+    /// Records what Serve does to memory.
     #[tactic(auto, using(crate::proofs::Alone::serving), unfolding(cf_semantics::specs::moves::Moves::next))]
     fn note_serve(
         &self,
@@ -151,7 +151,7 @@ impl Situation {
         note_serial(alloc, self.regs(), image, changes, instruction(&passenger))
     }
 
-    /// Takes in what Access or Serve does to memory.
+    /// Records what Access or Serve does to memory.
     #[tactic(auto, unfolding(crate::specs::RuleMoves::moved_without, crate::specs::RuleMoves::next_without, cf_semantics::specs::moves::Moves::next))]
     fn note(
         &self,
@@ -174,8 +174,8 @@ impl Situation {
         }
     }
 
-    /// Makes an allowed move in a memory with these changes, and takes in what it does to memory. Otherwise it is
-    /// `make`. After an error, for want of memory for the changes, nothing is known of the three.
+    /// Makes an allowed move in a memory with these changes, and records what it does to memory. Otherwise it is the
+    /// same as `make`. After an error, for lack of memory for the changes, nothing is known of the three.
     #[tactic(auto, using(crate::proofs::Allowed::rows))]
     pub fn make_changing(
         &mut self,

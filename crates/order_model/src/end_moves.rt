@@ -18,7 +18,7 @@ use cf_passengers::{RequestedSources, goto, requests, value_in};
 use mem_regions::Regions;
 use order_rules::kept;
 
-/// Fetch at the address; where there is none, fetch waits.
+/// Fetch at the address; if there is none, fetch waits.
 #[inline(always)]
 fn fetch_at(place: Option<u32>) -> Fetch
     ensures { result ≡ fetch_there place }
@@ -29,7 +29,7 @@ fn fetch_at(place: Option<u32>) -> Fetch
     }
 }
 
-/// The instruction as it leaves; without the rule one that is not done leaves as one without a destination.
+/// The instruction as it leaves; without the rule, one that is not done leaves as one without a destination.
 #[inline(always)]
 pub(crate) fn leaving(away: Option<Rule>, p: Passenger) -> Passenger
     ensures { result ≡ leaving_without away p }
@@ -54,7 +54,7 @@ fn turn(fetch: Fetch, packet: Packet) -> Fetch
 }
 
 impl Situation {
-    /// Requests the register, where there is one.
+    /// Requests the register, if there is one.
     #[inline(always)]
     fn request_one(&mut self, register: Option<u8>)
         requires { length self.old.lane + length (listed_one register) ≤ 64 }
@@ -75,7 +75,7 @@ impl Situation {
         self.request_one(asked.second);
     }
 
-    /// Drops the cached value of the destination, where there is one.
+    /// Drops the cached value of the destination, if there is one.
     #[inline(always)]
     fn forget(&mut self, destination: Option<Binding>)
         ensures { self.new ≡ record self.old { cache = forgets (reg_in destination) self.old.cache } }
@@ -85,7 +85,7 @@ impl Situation {
         }
     }
 
-    /// A new instruction is in stage 1, and fetch goes on by the guess.
+    /// Puts a new instruction into stage 1; fetch goes on by the guess.
     #[inline(always)]
     #[tactic(auto, using(crate::proofs::Allowed::allowing), unfolding(cf_semantics::specs::moves::Moves::moved))]
     pub(crate) fn issue(
@@ -119,7 +119,7 @@ impl Situation {
         self.fetch = fetch_at(goto(&passenger));
     }
 
-    /// Writes the value of a destination, where there is one.
+    /// Writes the value of a destination, if there is one.
     #[inline(always)]
     fn write_back(&mut self, destination: Option<Binding>)
         ensures { self.new ≡ record self.old { regs = written self.old.regs destination } }
@@ -129,7 +129,7 @@ impl Situation {
         }
     }
 
-    /// A live instruction that leaves ends the program, or it retires.
+    /// A live instruction that leaves ends the program or retires.
     #[inline(always)]
     fn retire(&mut self, passenger: &Passenger)
         requires { self.old.retired + 1 < 2 ^ 64 }
@@ -144,7 +144,7 @@ impl Situation {
         }
     }
 
-    /// The instruction of the highest stage is gone; a dead one leaves no trace.
+    /// Removes the instruction of the highest stage; a dead instruction leaves no trace.
     #[inline(always)]
     pub(crate) fn leave(&mut self, away: Option<Rule>, layout: &LooseLayout, mem: &Regions)
         requires { self.old.retired + 1 < 2 ^ 64 }
@@ -180,7 +180,7 @@ impl Situation {
         self.cache = [None; 32];
     }
 
-    /// The cache takes in a result that leaves at the bottom.
+    /// The cache receives a result that leaves at the bottom.
     #[inline(always)]
     #[tactic(auto, using(crate::proofs::Emitted::clearing))]
     fn take_in(&mut self, caches: bool, packet: Packet)
@@ -196,7 +196,7 @@ impl Situation {
         }
     }
 
-    /// The result of the lowest stage is gone.
+    /// Removes the result of the lowest stage.
     #[inline(always)]
     pub(crate) fn exit(&mut self, layout: &LooseLayout, mem: &Regions)
         ensures { in_memory self.new mem.now ≡ moved layout.now (in_memory self.old mem.now) mv.Exit }

@@ -14,7 +14,7 @@ use cf_passengers::loose::isa_of;
 use mem_regions::Regions;
 use rv_inst::{Class, Instr, class_of, dest, sources};
 
-/// A destination, whose value is not known yet.
+/// A destination whose value is not known yet.
 #[inline(always)]
 fn destination(rd: u8) -> Option<Binding>
     ensures { result ≡ destination_of (register rd) }
@@ -51,7 +51,7 @@ fn blank(what: Option<Instr>, pc: u32, guess: Guess) -> Passenger
     }
 }
 
-/// An instruction that ends the program where it is issued.
+/// An instruction that is known to end the program when it is issued.
 #[inline(always)]
 fn ended(what: Option<Instr>, pc: u32, guess: Guess, end: End) -> Passenger
     ensures { result ≡ fresh_end what pc guess end }

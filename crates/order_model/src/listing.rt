@@ -1,4 +1,4 @@
-//! The moves that there are under a layout, and those that lead on from a state.
+//! The moves that exist under a layout, and those that lead on from a state.
 
 ghost use Rattle.std.specs.Prelude.{◌≡◌, ◌++◌, IfOk, map};
 ghost use Rattle.cf_bind.specs.declared.moves.Move.TheVariants as mv;
@@ -79,7 +79,7 @@ fn push_slides(moves: &mut Vec<Move>, layout: &LooseLayout) -> Result<(), AllocE
     Ok(())
 }
 
-/// Adds the moves of the kinds before the sidings' at each stage.
+/// Adds the moves of the kinds listed before those of the sidings, at each stage.
 fn push_lower(moves: &mut Vec<Move>, layout: &LooseLayout) -> Result<(), AllocError>
     ensures { IfOk result (λ done. moves.new.items ≡ (((((moves.old.items ++ at_stages layout.now mv.Climb) ++ at_stages layout.now mv.Fall)
         ++ at_stages layout.now mv.Meet) ++ at_stages layout.now mv.Execute) ++ at_stages layout.now mv.Send) ++ at_stages layout.now mv.Launch) }
@@ -92,7 +92,7 @@ fn push_lower(moves: &mut Vec<Move>, layout: &LooseLayout) -> Result<(), AllocEr
     push_stages(moves, layout, StageKind::Launch)
 }
 
-/// All moves but an Issue whose guess is an address, in their order.
+/// All moves in their order, except an Issue whose guess is an address.
 #[tactic(auto, using(crate::proofs::Listed::listing))]
 pub fn all_moves(alloc: Global, layout: &LooseLayout) -> Result<Vec<Move>, AllocError>
     ensures { IfOk result (λ moves. moves.items ≡ all_moves_of layout.now) }
@@ -121,7 +121,7 @@ fn is_issue(m: Move) -> bool
 
 impl Situation {
     /// Those of the moves, in their order, that lead on from the state in this memory: those that are allowed, without
-    /// Issue where it may not be made.
+    /// Issue if it may not be made.
     #[tactic(auto, unfolding(theory_orders::specs::Wrong::leading))]
     pub fn candidates(
         &self,

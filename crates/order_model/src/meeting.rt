@@ -1,4 +1,4 @@
-//! What an instruction and a result do when they meet, a step taken away or not.
+//! What an instruction and a result do when they meet, with or without a step taken away.
 #![tactic(auto, unfolding(crate::specs::RuleMoves::meeting_without))]
 
 ghost use Rattle.std.specs.Prelude.{◌≡◌};

@@ -18,7 +18,7 @@ use cf_passengers::finish;
 use mem_regions::Regions;
 
 impl Situation {
-    /// The first request leaves the lane, and its register's value is in the highest stage.
+    /// Takes the first request from the lane, and puts its register's value into the highest stage.
     #[inline(always)]
     #[tactic(auto, using(crate::proofs::Emitted::emitting), unfolding(cf_semantics::specs::moves::Moves::moved))]
     pub(crate) fn emit(&mut self, layout: &LooseLayout, mem: &Regions)
@@ -43,7 +43,7 @@ impl Situation {
         );
     }
 
-    /// The instruction of the stage is in the stage above.
+    /// Moves the instruction of the stage to the stage above.
     #[inline(always)]
     pub(crate) fn climb(&mut self, layout: &LooseLayout, mem: &Regions, i: u32)
         ensures { in_memory self.new mem.now ≡ moved layout.now (in_memory self.old mem.now) (mv.Climb i) }
@@ -73,7 +73,7 @@ impl Situation {
         );
     }
 
-    /// The result of the stage is in the stage below.
+    /// Moves the result of the stage to the stage below.
     #[inline(always)]
     pub(crate) fn fall(&mut self, layout: &LooseLayout, mem: &Regions, i: u32)
         ensures { in_memory self.new mem.now ≡ moved layout.now (in_memory self.old mem.now) (mv.Fall i) }
@@ -171,7 +171,7 @@ impl Situation {
         self.set_passenger(i as usize, cell, finish(passenger, None));
     }
 
-    /// What the instruction owes is beside it, met.
+    /// Puts the result that the instruction owes beside it, as met.
     #[inline(always)]
     pub(crate) fn send(&mut self, layout: &LooseLayout, mem: &Regions, i: u32)
         ensures { in_memory self.new mem.now ≡ moved layout.now (in_memory self.old mem.now) (mv.Send i) }

@@ -41,7 +41,7 @@ impl Situation {
         }
     }
 
-    /// Replaces the contents of the stage, where there is one of this number.
+    /// Replaces the contents of the stage, if there is one with this number.
     #[inline(always)]
     #[tactic(auto, using(crate::proofs::Beyond::beyond))]
     pub(crate) fn put(&mut self, i: usize, cell: Cell)
@@ -52,7 +52,7 @@ impl Situation {
         }
     }
 
-    /// Replaces the contents of a cell of a siding, where there is one of these numbers.
+    /// Replaces the contents of a cell of a siding, if there is one with these numbers.
     #[inline(always)]
     #[tactic(auto, using(crate::proofs::Beyond::beyond))]
     pub(crate) fn set_op(&mut self, k: usize, c: usize, op: Option<Op>)
@@ -63,7 +63,7 @@ impl Situation {
         }
     }
 
-    /// Replaces the contents of the last cell of a siding, where there is one.
+    /// Replaces the contents of the last cell of a siding, if there is one.
     #[inline(always)]
     #[tactic(auto, using(crate::proofs::LastCell::last_cell, crate::proofs::Beyond::beyond))]
     pub(crate) fn set_last_op(&mut self, k: usize, op: Option<Op>)

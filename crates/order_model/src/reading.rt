@@ -1,4 +1,4 @@
-//! What can be seen of a state.
+//! What can be observed of a state.
 
 ghost use Rattle.std.specs.List.{list_any};
 ghost use Rattle.std.specs.Prelude.{◌≡◌, None, Some};
@@ -59,7 +59,7 @@ impl Situation {
         self.fetch
     }
 
-    /// Whether no instruction, result, request or operation is anywhere.
+    /// Whether there is no instruction, result, request or operation anywhere.
     #[tactic(auto, unfolding(cf_semantics::specs::state::Drained::is_drained))]
     pub fn is_drained(&self) -> bool
         ensures { result ≡ nothing_there self.now }
@@ -67,8 +67,8 @@ impl Situation {
         !any_occupied(&self.cells) && self.lane.is_empty() && !any_held(&self.sidings)
     }
 
-    /// The instruction that retires with the allowed move, if one does, as it leaves: its address, what it is, and its
-    /// destination are the line.
+    /// The instruction that retires with the allowed move, if one does, as it leaves: its address, the instruction and
+    /// its destination make up the line.
     #[tactic(auto, unfolding(crate::specs::RuleMoves::retires_without))]
     pub fn retiring(&self, away: Option<Rule>, layout: &LooseLayout, m: Move) -> Option<Passenger>
         ensures { on result None (λ p. Some (line_of p)) ≡ retires_without away layout.now self.now m }

@@ -26,7 +26,7 @@ pub(crate) fn synchronizes(i: Instr) -> bool
     matches!(i, Instr::FenceI { .. })
 }
 
-/// What the environment answers; the bytes that it writes are not kept.
+/// The answer of the environment; the bytes that it writes are not kept.
 #[tactic(auto, using(crate::proofs::Alone::calling))]
 fn call(regs: &[u32; 32], mem: &mut Regions) -> Served
     ensures memory { mem.new ≡ memory_served (call_of regs.now mem.old []) mem.old }
@@ -37,7 +37,7 @@ fn call(regs: &[u32; 32], mem: &mut Regions) -> Served
     serve(regs, mem, &mut input, &mut output)
 }
 
-/// What the environment answers to the instruction, whether it calls the environment or is FENCE.I, and what that does
+/// The answer of the environment to the instruction, whether it calls the environment or is FENCE.I, and what that does
 /// to memory. Nothing is left of the input, and the bytes that a call writes are not kept.
 #[tactic(auto, unfolding(cf_semantics::specs::moves::Instructions::serve_of))]
 pub fn answer_to(i: Instr, regs: &[u32; 32], mem: &mut Regions) -> Served
@@ -52,7 +52,7 @@ pub fn answer_to(i: Instr, regs: &[u32; 32], mem: &mut Regions) -> Served
     }
 }
 
-/// The instruction once it is answered.
+/// The instruction after it is answered.
 #[tactic(auto, using(crate::proofs::Alone::answering))]
 fn served(regs: &[u32; 32], mem: &mut Regions, p: Passenger) -> Passenger
     ensures memory { mem.new ≡ memory_served (serve_of (instruction_of p) regs.now mem.old []) mem.old }
@@ -87,7 +87,7 @@ fn written<'a>(regs: &[u32; 32], mem: &'a Regions) -> &'a [u8]
     }
 }
 
-/// The bytes that the environment writes to the output where it answers the instruction, and nothing is left of the
+/// The bytes that the environment writes to the output when it answers the instruction, and nothing is left of the
 /// input.
 #[tactic(auto, using(crate::proofs::Written::answering))]
 pub fn output_of<'a>(i: Instr, regs: &[u32; 32], mem: &'a Regions) -> &'a [u8]
@@ -100,7 +100,7 @@ pub fn output_of<'a>(i: Instr, regs: &[u32; 32], mem: &'a Regions) -> &'a [u8]
 }
 
 impl Situation {
-    /// The environment has answered the instruction in the highest stage, or the program ends once it leaves.
+    /// The environment answers the instruction in the highest stage, or the program ends when the instruction leaves.
     #[tactic(auto, using(crate::proofs::Alone::serving), unfolding(cf_semantics::specs::moves::Moves::next))]
     pub(crate) fn serve(&mut self, layout: &LooseLayout, mem: &mut Regions)
         ensures { in_memory self.new mem.new ≡ (next layout.now (lone_moment (in_memory self.old mem.old)) mv.Serve).state }

@@ -25,7 +25,7 @@ use mem_regions::Regions;
 use order_rules::kept;
 use rv_inst::{Class, access_of, class_of, extend};
 
-/// The number that a load reads; 0 where it is not permitted.
+/// The number that a load reads; 0 if it is not permitted.
 #[inline(always)]
 fn number_at(mem: &Regions, addr: u32, width: u32) -> u32
     requires { IsWidth width }
@@ -37,7 +37,7 @@ fn number_at(mem: &Regions, addr: u32, width: u32) -> u32
     }
 }
 
-/// Carries out a load or a store. The answer is the value that a load writes to its register, and 0 for a store.
+/// Carries out a load or a store. The answer is the value that a load writes to its register, or 0 for a store.
 #[inline(always)]
 #[tactic(auto, using(crate::proofs::Accessed::accessing), unfolding(cf_semantics::specs::moves::Instructions::answer_of, cf_semantics::specs::moves::Instructions::mem_after))]
 fn access(op: Op, mem: &mut Regions) -> u32
@@ -67,7 +67,7 @@ fn answer(op: Op, mem: &mut Regions) -> u32
     }
 }
 
-/// The answer that an instruction takes back; without its rule a load or a store has 0 where it has no answer.
+/// The answer that an instruction takes back; without its rule, a load or a store without an answer takes 0.
 #[inline(always)]
 fn answer_taken(away: Option<Rule>, p: &Passenger, op: &Op) -> Option<u32>
     ensures { result ≡ answer_without away p.now op.now }
@@ -93,7 +93,7 @@ fn holding(source: Option<Binding>, value: u32) -> Option<Binding>
     }
 }
 
-/// The instruction with the source values with which it takes the operation back.
+/// The instruction, with the source values that it has when it takes the operation back.
 #[inline(always)]
 fn sources_taken(away: Option<Rule>, p: Passenger, op: &Op) -> Passenger
     ensures { result ≡ sources_without away p op.now }
@@ -146,7 +146,7 @@ impl Situation {
         self.set_op(k as usize, 0, Some(operation(&passenger)));
     }
 
-    /// The operation of a cell is in the next one.
+    /// Moves the operation of a cell to the next one.
     #[inline(always)]
     pub(crate) fn slide(&mut self, layout: &LooseLayout, mem: &Regions, k: u32, c: u32)
         ensures { in_memory self.new mem.now ≡ moved layout.now (in_memory self.old mem.now) (mv.Slide k c) }
@@ -174,7 +174,7 @@ impl Situation {
         self.set_last_op(k, Some(answered));
     }
 
-    /// The operation at the end of the siding is taken out. A live instruction finishes.
+    /// Takes out the operation at the end of the siding. A live instruction finishes.
     #[inline(always)]
     #[tactic(auto, using(crate::proofs::Allowed::allowing), unfolding(crate::specs::RuleMoves::moved_without))]
     pub(crate) fn recover(

@@ -9,9 +9,9 @@ use arrayvec::ArrayVec;
 use cf_bind::{Cell, End, Fetch, Op};
 use std::marker::Model;
 
-/// A state of the table of moves, all but its memory: what is in the pipes and the sidings, the requests, fetch, the
-/// cache, the registers, how many instructions have retired, and how the program ended. Contracts see it as the state
-/// with a memory that has no region.
+/// A state of the table of moves without its memory: the contents of the pipes and the sidings, the requests, fetch,
+/// the cache, the registers, how many instructions have retired, and how the program ended. Contracts see it as the
+/// state with a memory that has no regions.
 #[derive(Drop)]
 pub struct Situation {
     /// The stages, from the lowest up.
@@ -20,13 +20,13 @@ pub struct Situation {
     /// The sidings.
     pub sidings: Vec<SidingOps>,
 
-    /// The requested registers, the one to be answered next first.
+    /// The requested registers, in the order in which they will be answered.
     pub lane: ArrayVec<u8, 64>,
 
     /// What fetch does.
     pub fetch: Fetch,
 
-    /// For each register the value that the cache holds, if any.
+    /// For each register the cached value, if any.
     pub cache: [Option<u32>; 32],
 
     /// The register file.
@@ -52,7 +52,7 @@ impl Model for Situation {
 }
 
 impl Situation {
-    /// What is in the stage of this number.
+    /// The contents of the stage with this number.
     #[inline(always)]
     pub fn cell(&self, i: usize) -> Option<Cell>
         ensures { result ≡ cell_at self.now.cells i }
@@ -63,7 +63,7 @@ impl Situation {
         self.cells.get(i - 1).copied()
     }
 
-    /// The cells of the siding of this number; none where there is no such siding.
+    /// The cells of the siding with this number; none if there is no such siding.
     #[inline(always)]
     pub(crate) fn siding(&self, k: usize) -> &[Option<Op>]
         ensures { result.now ≡ siding_at self.now k }
@@ -74,7 +74,7 @@ impl Situation {
         }
     }
 
-    /// The contents of a cell of a siding, where there is one of these numbers.
+    /// The contents of a cell of a siding, if there is one with these numbers.
     #[inline(always)]
     pub(crate) fn op_at(&self, k: usize, c: usize) -> Option<Option<Op>>
         ensures { result ≡ slice_get (siding_at self.now k) c }

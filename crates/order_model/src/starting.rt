@@ -12,7 +12,7 @@ use cf_layout::LooseLayout;
 use rv_machine::Machine;
 use std::alloc::{AllocError, Global};
 
-/// A stage with nothing in it.
+/// An empty stage.
 const EMPTY: Cell = Cell {
     passenger: None,
     packet: None,
@@ -43,8 +43,8 @@ fn copy_sidings(alloc: Global, sidings: &[SidingOps]) -> Result<Vec<SidingOps>, 
 }
 
 impl Situation {
-    /// The state in which a processor of this layout starts on the machine, in whose memory it is; or an error where
-    /// there is no memory for it.
+    /// The state in which a processor of this layout starts on the machine, in the machine's memory; or an error if
+    /// there is not enough memory for the state.
     #[tactic(auto, unfolding(cf_semantics::specs::runs::Runs::opened))]
     pub fn start(
         alloc: Global,
@@ -67,7 +67,7 @@ impl Situation {
         })
     }
 
-    /// The same state again; or an error where there is no memory for it.
+    /// A copy of the state; or an error if there is not enough memory for it.
     pub fn copy(&self, alloc: Global) -> Result<Situation, AllocError>
         ensures { IfOk result (λ s. s ≡ self.now) }
     {

@@ -67,8 +67,8 @@ impl Situation {
         }
     }
 
-    /// Makes an allowed move in this memory, where a rule may be taken away. Nothing is left of the input; what Serve
-    /// writes is the `output` of the state before.
+    /// Makes an allowed move in this memory, where a rule may be taken away. Nothing is left of the input; the bytes
+    /// that Serve writes are the `output` of the state before.
     #[tactic(auto, using(crate::proofs::Allowed::rows))]
     pub fn make(&mut self, away: Option<Rule>, layout: &LooseLayout, mem: &mut Regions, m: Move)
         requires allowed { bar_without away layout.now (in_memory self.old mem.old) m ≡ None }

@@ -1,4 +1,5 @@
--- What of a state is drawn, and the size of one that can be: no more stages, sidings and cells than a layout may have.
+-- What is drawn of a state, and the size of one that can be drawn: no more stages, sidings and cells than a layout may
+-- have.
 use Rattle.std.specs.Prelude.{ℕ, ◌≤◌, List, ◌++◌, All, length, Option, Bool}
 use Rattle.cf_bind.specs.declared.cell.Cell.{Cell}
 use Rattle.cf_bind.specs.declared.cell.Op.{Op}

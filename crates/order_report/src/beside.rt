@@ -69,7 +69,7 @@ fn push_value(page: &mut Page, register: u8, value: u32)
     page.push_hex(value);
 }
 
-/// Appends a register after a space where it is cached.
+/// Appends a register after a space, if it is cached.
 fn push_kept(page: &mut Page, register: u8, kept: Option<u32>)
     requires { length page.old + 13 ≤ page_room }
     ensures text { page.new ≡ page.old ++ cached_text register kept }

@@ -1,5 +1,5 @@
-//! The report of a state of the table of moves that is kept as a value: the counts of the moves that led to it, its registers,
-//! and its picture.
+//! The report of a state of the table of moves, where the state is a value: the counts of the moves that led to it, its
+//! registers, and its picture.
 #![tactic(auto)]
 
 mod beside;

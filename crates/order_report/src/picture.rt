@@ -33,7 +33,7 @@ fn put_cache<R: Sink>(cache: &[Option<u32>; 32], report: &mut R) -> Result<(), F
     put_all(report, page.bytes())
 }
 
-/// The same, where the layout has the cache.
+/// The same, if the layout has the cache.
 fn put_kept<R: Sink>(
     has_cache: bool,
     cache: &[Option<u32>; 32],
@@ -119,9 +119,9 @@ fn put_parts<R: Sink>(
     put_sidings(sidings, report)
 }
 
-/// Writes a picture of the state: where fetch runs, the lane of requests, the cached registers where the layout has the
-/// cache, the stages that are not empty from the highest down, and the sidings with an operation. After `Failed` a prefix
-/// of it was written.
+/// Writes a picture of the state: where fetch runs, the lane of requests, the cached registers if the layout has the
+/// cache, the stages that are not empty from the highest down, and the sidings with an operation. After `Failed` a
+/// prefix of it was written.
 pub(crate) fn put_picture<R: Sink>(
     layout: &LooseLayout,
     situation: &Situation,

@@ -19,8 +19,8 @@ fn regs_of(situation: &Situation) -> &[u32; 32]
     &situation.regs
 }
 
-/// Writes what the report of a run ends with, of a state that is a value: the counts of the moves that led to it, the
-/// registers, and the picture. After `Failed` a prefix of it was written.
+/// Writes the last parts of the report of a run, for a state that is a value: the counts of the moves that led to it,
+/// the registers, and the picture. After `Failed` a prefix of it was written.
 pub fn put_state_rest<R: Sink>(
     layout: &LooseLayout,
     situation: &Situation,

@@ -2,7 +2,7 @@
 
 ghost use Rattle.order_rules.specs.NameClaims.{AreNamed, IsNamedOnce};
 
-/// A text names a rule where it is its name, and nowhere else.
+/// A text names a rule if and only if it is the name of that rule.
 #[tactic(auto, using(crate::proofs::Named::naming))]
 pub fn named_by_name()
     ensures named { AreNamed }

@@ -39,7 +39,7 @@ pub enum Rule {
     ExitNotMet,
     /// An instruction must meet the result of its stage before it calls the environment.
     ServeNotMet,
-    /// What meets a turn or a halt dies.
+    /// An instruction that meets a turn or a halt dies.
     MeetDie,
     /// A source without a value takes the value that it meets.
     MeetGarner,
@@ -120,7 +120,7 @@ impl Rule {
         text == self.name()
     }
 
-    /// The rule of this name; `None` where no rule has it.
+    /// The rule of this name; `None` if no rule has it.
     #[tactic(auto, unfolding(crate::specs::Rules::rule_named))]
     pub fn named(text: &str) -> Option<Rule>
         ensures { result ≡ rule_named text.now }

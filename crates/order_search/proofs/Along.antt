@@ -1,4 +1,4 @@
--- That paths which come before the place of the search lead to nodes that it has reached, and have no fault.
+-- Paths that come before the place of the search lead to nodes that it has reached, and have no fault.
 use Rattle.std.proofs.Common.{◌≡◌, ℕ, ◌<◌, ◌≤◌, List, [], ◌∷◌, ◌++◌, length, slice_get, Some, sym, subst, ◌∙◌, arith, Contains, ◌⊎◌, inl, inr}
 use Rattle.std.proofs.lemmas.Bool.{cases_order, cases_lt}
 use Rattle.std.proofs.lemmas.List.{append_assoc, append-nil, get_or_default}
@@ -9,7 +9,7 @@ use Rattle.order_search.specs.SearchOrder.{Precedes, IsNotAfter}
 use Rattle.order_search.specs.Exploring.{IsGoneThrough, Explored}
 use Rattle.order_search.proofs.Precedence.{goes_on, by_earlier_edge, begins_before, not_itself, not_after_with, not_after_or, not_after_precedes, not_after_trans, precedes_trans}
 
--- a path from a node of the list: where it ends is in the list, reached first by it or an earlier path
+-- a path from a node of the list ends at a node of the list, which it or an earlier path reached first
 pub record ComesTo (nodes : List (List ℕ)) (paths : ℕ → List ℕ) (places : List ℕ) (end : List ℕ) : Type 0 where
   pub to : ℕ
   pub within : to < length nodes
@@ -25,12 +25,12 @@ not_wrong node e fault sound (inr (none, there)) = sound.node fault there
 module _ {L F : Type 0} (leads : EdgesOf L) (wrong : EdgeFaults L F) (flawed : NodeFaults F) (first : List ℕ) (nodes : List (List ℕ)) (entered : List
     (Entered L))
     (at part : ℕ) (x : Explored leads wrong flawed first nodes entered at part) where
-  -- the edges that were gone through, by their paths: those of which `Bound` holds
+  -- the edges that have been visited, by their paths: those for which `Bound` holds
   module _ (Bound : List ℕ → Type 0) (gone : (i k : ℕ) (e : EdgeView L) → i < length nodes → slice_get (leads (node_at nodes i)) k ≡ Some e →
       Bound (x.paths i ++ k ∷ []) → IsGoneThrough wrong flawed nodes x.paths i k e)
       (lower : (a b : List ℕ) → IsNotAfter a b → Bound b → Bound a) (front : (a : List ℕ) (k : ℕ) (more : List ℕ) → Bound (a ++ k ∷ more) → Bound (a ++ k ∷ []))
     where
-      -- the path from node i on, when its first edge is gone through
+      -- the path from node i on, when its first edge is visited
       rest_bound : (i k : ℕ) (ps : List ℕ) (to : ℕ) → IsNotAfter (x.paths to) (x.paths i ++ k ∷ []) → Bound (x.paths i ++ k ∷ ps) → Bound (x.paths to ++ ps)
       rest_bound i k ps to early bound = lower (x.paths to ++ ps) (x.paths i ++ k ∷ ps)
           (subst (IsNotAfter (x.paths to ++ ps)) (append_assoc (x.paths i) (k ∷ []) ps) (not_after_with (x.paths to) (x.paths i ++ k ∷ []) ps early)) bound
@@ -65,7 +65,7 @@ module _ {L F : Type 0} (leads : EdgesOf L) (wrong : EdgeFaults L F) (flawed : N
           let g = gone i p e within (subst (λ n. slice_get (leads n) p ≡ Some e) (sym is) path.0) (front (x.paths i) p (q ∷ qs) bound) in
           faultless e.node q qs d ds g.to fault g.within g.node path.1 (rest_bound i p (q ∷ qs) g.to g.early bound) h
 
-      -- from the first node: what a path of which `Bound` holds leads to is in the list, and it has no fault at its end
+      -- from the first node: a path for which `Bound` holds leads to a node of the list, and has no fault at its end
       pub listed : (ps : List ℕ) (es : List (EdgeView L)) → 0 < length nodes → IsEdgePath leads first ps es → Bound ps → Contains nodes (path_end first es)
       listed ps es some path bound =
           let h = comes first ps es 0 some x.begins path (subst (λ l. Bound (l ++ ps)) (sym x.nowhere) bound) in
@@ -78,12 +78,12 @@ module _ {L F : Type 0} (leads : EdgesOf L) (wrong : EdgeFaults L F) (flawed : N
       no_fault (p ∷ ps) (e ∷ es) fault some h bound =
           faultless first p ps e es 0 fault some x.begins h.path (subst (λ l. Bound (l ++ p ∷ ps)) (sym x.nowhere) bound) h.last
 
-  -- in the midst of the search: the paths before its place
+  -- during the search: the paths before its place
   module _ (inside : at < length nodes) where
     place : List ℕ
     place = x.paths at ++ part ∷ []
 
-    -- an edge whose path is before the place was gone through
+    -- an edge whose path is before the place has been visited
     gone_before : (i k : ℕ) (e : EdgeView L) → i < length nodes → slice_get (leads (node_at nodes i)) k ≡ Some e →
         Precedes (x.paths i ++ k ∷ []) place → IsGoneThrough wrong flawed nodes x.paths i k e
     unfolding place
@@ -131,7 +131,7 @@ module _ {L F : Type 0} (leads : EdgesOf L) (wrong : EdgeFaults L F) (flawed : N
         by (inl late) = late
         by (inr early) = absurd (no_fault (λ l. Precedes l place) gone_before lower_before front_before ps es fault (omega (arith, inside)) h early)
 
-  -- at the end all edges were gone through
+  -- at the end all edges have been visited
   module _ (ended : length nodes ≤ at) (some : 0 < length nodes) where
     gone_at_end : (i k : ℕ) (e : EdgeView L) → i < length nodes → slice_get (leads (node_at nodes i)) k ≡ Some e → Unit {0} →
         IsGoneThrough wrong flawed nodes x.paths i k e

@@ -1,4 +1,4 @@
--- Chains of the numbers of each bucket: one number more, and the search for a node in them.
+-- Chains of the numbers of each bucket: adding one number, and searching them for a node.
 use Rattle.std.proofs.Common.{◌≡◌, ℕ, zero, suc, ◌+◌, ◌-◌, ◌<◌, ◌≤◌, ◌==◌, leb, Bool, true, false, List, [], ◌∷◌, ◌++◌, length, map, take, take_all, get_or, set, refl, sym, ap, subst, ◌∙◌, arith, Contains}
 use Rattle.std.proofs.lemmas.Bool.Decides.{nat_tests}
 use Rattle.std.proofs.lemmas.List.{get_or-set_same, get_or-set_other, length-set, length-append, length-map, get_or-map, map-append}
@@ -7,7 +7,7 @@ use Rattle.std.proofs.Math.Seq.{get_or-append_seam}
 use Rattle.order_search.specs.Chains.{AreChained, AreChains, IsHighestBelow, bucket_of, bucket_with, hash_of}
 use Rattle.order_search.specs.Numbers.{node_at}
 
--- what is below a place is as before when one more number follows
+-- what is below a place stays the same when one more number follows
 still : (buckets : List ℕ) (more bucket from top : ℕ) → from ≤ length buckets →
     IsHighestBelow buckets bucket from top → IsHighestBelow (buckets ++ more ∷ []) bucket from top
 still buckets more bucket from top within t = record {
@@ -25,7 +25,7 @@ newest buckets bucket from top e f = record {
   highest = λ i above under is. absurd (omega (arith, above, under, e, f));
 }
 
--- and of no other
+-- and is in no other bucket
 passed_over : (buckets : List ℕ) (more bucket from top : ℕ) → from ≡ length buckets + 1 → (more ≡ bucket → ⊥) →
     IsHighestBelow buckets bucket (length buckets) top →
     IsHighestBelow (buckets ++ more ∷ []) bucket from top
@@ -43,7 +43,7 @@ passed_over buckets more bucket from top e other t =
         other (sym (get_or-append_seam buckets more [] 0) ∙ ap (λ k. get_or (buckets ++ more ∷ []) k 0) (sym at) ∙ is)
     by i above under is false q old = old.highest i above (grind (arith, nat_tests)) is
 
--- one number more
+-- one more number
 pub number_added : (buckets heads links : List ℕ) (bucket top : ℕ) → bucket < length heads → top ≡ length links + 1 → AreChains buckets heads links →
     AreChains (buckets ++ bucket ∷ []) (set heads bucket top) (links ++ get_or heads bucket 0 ∷ [])
 number_added buckets heads links bucket top inside e c = record {
@@ -147,7 +147,7 @@ module _ (nodes : List (List ℕ)) (heads links : List ℕ) (node : List ℕ) (c
 
 pub ruleset seeking = (sought_first, sought_next, sought_last)
 
--- a node with another hash is another one
+-- a node with another hash is a different node
 hash_at : (nodes : List (List ℕ)) (hashes : List ℕ) (number : ℕ) → hashes ≡ map hash_of nodes → number < length nodes →
     get_or hashes number 0 ≡ hash_of (node_at nodes number)
 hash_at nodes hashes number e within = ap (λ (l : List ℕ). get_or l number 0) e ∙ get_or-map hash_of nodes number [] 0 within
@@ -167,7 +167,7 @@ unfolding bucket_of
 of_hashes count [] = refl
 of_hashes count (x ∷ xs) = ap (λ (l : List ℕ). bucket_with count (hash_of x) ∷ l) (of_hashes count xs)
 
--- the buckets of one hash more
+-- the buckets, with one more hash
 bucketed : (f : ℕ → ℕ) (hashes : List ℕ) (n : ℕ) → n < length hashes → map f (take (n + 1) hashes) ≡ map f (take n hashes) ++ f (get_or hashes n 0) ∷ []
 bucketed f [] n within = absurd (omega (arith, within))
 bucketed f (x ∷ xs) zero within = refl
@@ -186,7 +186,7 @@ all_bucketed count n hashes heads links past c = subst (λ l. AreChains (map (bu
 
 pub ruleset chaining = (one_bucketed, all_bucketed)
 
--- as many buckets as there are chains
+-- as many buckets as chains
 pub resized : (count : ℕ) (nodes : List (List ℕ)) (hashes heads links old_heads old_links : List ℕ) → length heads ≡ count →
     AreChained nodes hashes old_heads old_links → AreChains (map (bucket_with count) hashes) heads links → AreChained nodes hashes heads links
 resized count nodes hashes heads links old_heads old_links e old c = record {
@@ -195,7 +195,7 @@ resized count nodes hashes heads links old_heads old_links e old c = record {
       (subst (λ l. AreChains l heads links) (ap (map (bucket_with count)) old.hashed ∙ of_hashes count nodes) c);
 }
 
--- one node more
+-- one more node
 pub node_chained : (nodes : List (List ℕ)) (hashes node heads links old_heads old_links : List ℕ) (hash bucket : ℕ) → length heads ≡ length old_heads →
     hash ≡ hash_of node → bucket ≡ bucket_with (length old_heads) hash → AreChained nodes hashes old_heads old_links →
     ((buckets : List ℕ) → AreChains buckets old_heads old_links → AreChains (buckets ++ bucket ∷ []) heads links) →

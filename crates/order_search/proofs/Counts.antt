@@ -1,4 +1,4 @@
--- What counts of routes say of a graph: each that is known is right, and so are those that follow.
+-- What counts of routes say about a graph: each known count is right, and so are those that follow.
 use Rattle.std.proofs.Common.{◌≡◌, ℕ, zero, suc, ◌+◌, ◌≤◌, ◌^◌, List, [], ◌∷◌, ◌++◌, length, slice_get, Bool, true, false, cond, refl, sym, ap, subst, ◌∙◌, arith, Some}
 use Rattle.std.specs.List.{flat_map, fold, sum_by}
 use Rattle.std.specs.Prelude.{nat_lt}
@@ -19,7 +19,7 @@ slice_get_seam [] y ys = refl
 slice_get_seam (x ∷ xs) y ys = slice_get_seam xs y ys
 
 module _ {L : Type 0} (leads : EdgesOf L) where
-  -- how many routes of at most `depth` edges lead from a node
+  -- the number of routes of at most `depth` edges from a node
   abbrev pub many : ℕ → List ℕ → ℕ
   many depth node = length (routes leads depth node)
 
@@ -33,7 +33,7 @@ module _ {L : Type 0} (leads : EdgesOf L) where
       ∙ omega (arith, first, rest)
       ∙ sym (sum_by-cons (λ d. many depth d.node) e es)
 
-  -- at a node that edges leave
+  -- at a node with outgoing edges
   many_on : (depth : ℕ) (node : List ℕ) (e : EdgeView L) (es : List (EdgeView L)) → leads node ≡ e ∷ es →
       many (suc depth) node ≡ sum_by (λ d. many depth d.node) (e ∷ es)
   unfolding routes
@@ -42,14 +42,14 @@ module _ {L : Type 0} (leads : EdgesOf L) where
       ∙ length-flat_map (λ d. each_behind d.label (routes leads depth d.node)) (e ∷ es)
       ∙ many_alike depth (e ∷ es)
 
-  -- at a node that none leaves
+  -- at a node without outgoing edges
   one_at_end : (depth : ℕ) (node : List ℕ) → leads node ≡ [] → routes leads depth node ≡ [] ∷ []
   unfolding routes
   one_at_end zero node is = ap (λ l. cond (is_none l) ([] ∷ []) []) is
   one_at_end (suc depth) node is =
       ap (λ l. cond (is_none l) ([] ∷ []) (flat_map (λ d. each_behind d.label (routes leads depth d.node)) l)) is
 
-  -- the paths from where each of these edges leads have at most so many edges
+  -- the paths from the targets of these edges have at most this many edges
   abbrev pub AreBounded : ℕ → List (EdgeView L) → Type 0
   AreBounded depth [] = Unit {0}
   AreBounded depth (e ∷ es) = HasPathsUpTo leads depth e.node × AreBounded depth es
@@ -65,7 +65,7 @@ module _ {L : Type 0} (leads : EdgesOf L) where
   bounded_push depth [] e all last = (last, tt)
   bounded_push depth (d ∷ ds) e all last = (all.0, bounded_push depth ds e all.1 last)
 
-  -- so the paths from the node that they leave have at most one more
+  -- so the paths from their source have at most one more
   bounded_on : (depth : ℕ) (node : List ℕ) → AreBounded depth (leads node) → HasPathsUpTo leads (suc depth) node
   unfolding IsEdgePath
   bounded_on depth node all [] [] path = omega arith
@@ -73,7 +73,7 @@ module _ {L : Type 0} (leads : EdgesOf L) where
   bounded_on depth node all (p ∷ ps) [] path = absurd path
   bounded_on depth node all (p ∷ ps) (e ∷ es) path = omega (arith, bounded_at depth (leads node) p e all path.0 ps es path.1)
 
-  -- and the other way round
+  -- and conversely
   bounded_behind : (depth : ℕ) (node : List ℕ) (before es : List (EdgeView L)) → leads node ≡ before ++ es → HasPathsUpTo leads (suc depth) node →
       AreBounded depth es
   unfolding IsEdgePath
@@ -114,7 +114,7 @@ module _ {L : Type 0} (leads : EdgesOf L) where
   IsCount depth node (Exactly n) = HasPathsUpTo leads depth node × (n ≡ many depth node)
   IsCount depth node More = HasPathsUpTo leads depth node × (2 ^ 64 ≤ many depth node)
 
-  -- and of all nodes to which edges lead
+  -- and for all nodes to which edges lead
   abbrev pub IsSum : ℕ → List (EdgeView L) → Count → Type 0
   IsSum depth es Open = Unit {0}
   IsSum depth es (Exactly n) = AreBounded depth es × (n ≡ sum_by (λ e. many depth e.node) es)
@@ -153,7 +153,7 @@ module _ {L : Type 0} (leads : EdgesOf L) where
       (bounded_push depth es e h.0 k.0, omega (arith, k.1, sum_by_push (λ d. many depth d.node) es e))
 
   module _ (nodes : List (List ℕ)) where
-    -- all counts say so
+    -- all counts are right
     abbrev pub AreCounts : ℕ → List Count → Type 0
     AreCounts depth counts = (i : ℕ) → IsCount depth (node_at nodes i) (count_at counts i)
 

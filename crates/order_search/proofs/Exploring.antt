@@ -1,4 +1,5 @@
--- What a breadth-first search keeps: each node that it has reached has a path, and the paths are in the order of the search.
+-- The invariants of a breadth-first search: each node that it has reached has a path, and the paths are in the order of
+-- the search.
 use Rattle.std.proofs.Common.{◌≡◌, ◌≢◌, ℕ, ◌+◌, ◌<◌, ◌≤◌, List, [], ◌∷◌, ◌++◌, length, get_or, slice_get, cond, Some, None, refl, sym, ap, subst, ◌∙◌, arith, Contains, ◌⊎◌, inl, inr}
 use Rattle.std.specs.Prelude.{nat_eq}
 use Rattle.std.proofs.lemmas.Bool.Decides.{nat_tests}
@@ -13,7 +14,7 @@ use Rattle.order_search.specs.Exploring.{HasPredecessor, IsGoneThrough, Explored
 use Rattle.order_search.specs.SearchOrder.{Precedes, IsNotAfter}
 use Rattle.order_search.proofs.Precedence.{goes_on, by_earlier_edge, is_begun, precedes_trans}
 
--- the places of a list that has one more element
+-- the elements of a list that has one more element
 pushed : {X : Type 0} (xs : List X) (y d : X) (i : ℕ) → slice_get (xs ++ y ∷ []) i ≡ Some d → (slice_get xs i ≡ Some d) ⊎ ((i ≡ length xs) × (y ≡ d))
 pushed xs y d i there = by (slice_get_cases xs i).1
   where
@@ -28,7 +29,7 @@ pushed xs y d i there = by (slice_get_cases xs i).1
         let last : i ≡ length xs = omega (arith, within, length-append xs (y ∷ [])) in
         inr (last, sym (get_or_push xs y d i (sym last)) ∙ get_or_from_slice_get (xs ++ y ∷ []) i d d there)
 
--- the number that comes next, or a lesser one
+-- the next number, or a smaller one
 next_or_less : (k part : ℕ) → k < part + 1 → (k ≡ part) ⊎ (k < part)
 next_or_less k part below = eq-or-lt_of_le (omega (arith, below))
 
@@ -108,7 +109,7 @@ module _ {L F : Type 0} (leads : EdgesOf L) (wrong : EdgeFaults L F) (flawed : N
     unfolding paths
     new_path = path_last x.paths (length nodes) newest
 
-    -- what was gone through is
+    -- what has been visited stays visited
     still : (i k : ℕ) (d : EdgeView L) → i < length nodes → IsGoneThrough wrong flawed nodes x.paths i k d → IsGoneThrough wrong flawed more paths i k d
     still i k d below h = record {
       sound = subst (λ node. IsFaultless wrong flawed node d) (sym (old_node i below)) h.sound;
@@ -150,7 +151,7 @@ module _ {L F : Type 0} (leads : EdgesOf L) (wrong : EdgeFaults L F) (flawed : N
     unfolding newest
     before_newest i below = subst (λ l. Precedes l (x.paths at ++ part ∷ [])) (sym (old_path i below)) (x.near i below inside)
 
-    -- paths rise
+    -- paths are in ascending order
     rising : (i j : ℕ) → i < j → j < length nodes + 1 → Precedes (paths i) (paths j)
     rising i j order within = by_number (next_or_less j (length nodes) within)
       where
@@ -213,7 +214,7 @@ module _ {L F : Type 0} (leads : EdgesOf L) (wrong : EdgeFaults L F) (flawed : N
             let alike : e ≡ d = cc (leaves, there, ap (slice_get (leads (node_at nodes at))) same) in
             subst (λ n. IsGoneThrough wrong flawed more paths at n d) (sym same) (subst (IsGoneThrough wrong flawed more paths at part) alike this)
 
-  -- where all edges of a node were gone through, the next one comes
+  -- when all edges of a node have been visited, the next node follows
   pub next_node : (nodes : List (List ℕ)) (entered : List (Entered L)) (at part : ℕ) → at < length nodes → part ≡ length (leads (node_at nodes at)) →
       Explored leads wrong flawed first nodes entered at part → Explored leads wrong flawed first nodes entered (at + 1) 0
   next_node nodes entered at part inside all x = record {

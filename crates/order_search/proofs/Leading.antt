@@ -1,4 +1,4 @@
--- Paths, and that the labels by which a search reached a node are those of its path.
+-- Paths; and the labels by which a search reached a node are those of its path.
 use Rattle.std.proofs.Common.{◌≡◌, ℕ, zero, suc, ◌+◌, ◌<◌, ◌≤◌, List, [], ◌∷◌, ◌++◌, length, map, get_or, slice_get, Some, None, refl, sym, ap, subst, ◌∙◌, arith, Contains, ◌⊎◌, inl, inr}
 use Rattle.std.proofs.lemmas.List.{map-append, get_or_default}
 use Rattle.std.proofs.lemmas.Option.{slice_get_cases}
@@ -89,7 +89,7 @@ module _ {L F : Type 0} (leads : EdgesOf L) (wrong : EdgeFaults L F) (flawed : N
         end = h.end ∙ get_or_default nodes number [] node within ∙ is;
       }
 
-  -- by its path
+  -- and it is reached by its path
   pub reached_by : (last node : List ℕ) → ((number : ℕ) → number < length nodes → IsNotAfter (x.paths number) last) → Contains nodes node →
       IsReachedBy leads first last node
   reached_by last node early (number, within, is) =

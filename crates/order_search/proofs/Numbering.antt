@@ -17,7 +17,7 @@ numbering nodes [] (to ∷ row) h = absurd h
 numbering nodes (e ∷ items) [] h = absurd h
 numbering nodes (e ∷ items) (to ∷ row) h = (record { name = refl; target = h.0 }, numbering nodes items row h.1)
 
--- what reading the edges of a node with its row gives
+-- the result of reading the edges of a node with its row
 pub all_numbered : {L F E : Type 0} (leads : EdgesOf L) (nodes rows : List (List ℕ)) (items : List (Edge L F)) (row : List ℕ) (number : ℕ) (node : List ℕ)
     (result : Result (Vec (NumberedEdge L) Global) E) → slice_get nodes number ≡ Some node → row ≡ numbered_row rows number → map edge_view items ≡ leads node →
     AreTargets nodes (numbered_row rows number) (leads (node_at nodes number)) → IfOk result (λ found. found.items ≡ map number_edge (zip items row)) →

@@ -1,4 +1,4 @@
--- That the numbers of the nodes are in the order in which these are first reached.
+-- The numbers of the nodes are in the order in which the nodes are first reached.
 use Rattle.std.proofs.Common.{◌≡◌, ◌≢◌, ℕ, ◌+◌, ◌<◌, ◌≤◌, List, [], length, sym, subst, ◌∙◌, arith, ◌⊎◌, inl, inr}
 use Rattle.std.specs.List.{AllPairs}
 use Rattle.std.proofs.lemmas.Bool.{cases_order}

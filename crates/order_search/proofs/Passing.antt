@@ -1,4 +1,4 @@
--- Going through an edge.
+-- Visiting an edge.
 use Rattle.std.proofs.Common.{◌≡◌, ℕ, List, Option, Some, None, Bool, true, false, refl, inl, inr}
 use Rattle.std.specs.Prelude.{MatchOption}
 use Rattle.order_search.specs.declared.trail.Entered.{Entered}
@@ -16,7 +16,7 @@ faultless wrong flawed from e none = record {
   node = λ fault there. none fault (inr (λ other own. none other (inl own), there));
 }
 
--- it leads to a node, which is added unless it is there
+-- it leads to a node, which is added unless it is already there
 pub passed_on : {L F : Type 0} (wrong : EdgeFaults L F) (flawed : NodeFaults F) (old new : List (List ℕ)) (entered after : List (Entered L)) (at : ℕ)
     (e : EdgeView L) (number : ℕ) (is_new : Bool) → ((fault : F) → HasEdgeFault wrong flawed (node_at old at) e fault → ⊥) →
     AddsNode old new e.node number is_new → after ≡ entered_if is_new entered (record { from = at; label = e.label }) →
@@ -28,7 +28,7 @@ passed_on wrong flawed old new entered after at e number true none (more, last, 
 passed_on wrong flawed old new entered after at e number false none (same, within, is) so =
     (faultless wrong flawed (node_at old at) e none, inl (record { within = within; node = is; nodes = same; same = so }))
 
--- an edge that says no fault has none
+-- an edge that reports no fault has none
 pub said_none : {L F : Type 0} (wrong : EdgeFaults L F) (flawed : NodeFaults F) (from : List ℕ) (e : EdgeView L) (said : Option F) →
     ((fault : F) → said ≡ Some fault → ⊥) →
     MatchOption said ((fault : F) → HasEdgeFault wrong flawed from e fault → ⊥) (λ fault. HasEdgeFault wrong flawed from e fault) →

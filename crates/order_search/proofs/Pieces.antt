@@ -1,4 +1,4 @@
--- Lists that stand one behind the other in one list.
+-- Lists that are stored one after another in one list.
 use Rattle.std.proofs.Common.{◌≡◌, ℕ, zero, suc, ◌+◌, ◌-◌, ◌<◌, ◌≤◌, List, [], ◌∷◌, ◌++◌, length, take, drop, refl, ap, ◌∙◌, arith}
 use Rattle.std.specs.List.{slice_range}
 use Rattle.std.specs.Prelude.{slice_index}
@@ -6,7 +6,7 @@ use Rattle.std.proofs.Math.Seq.{drop-append_seam}
 use Rattle.std.proofs.lemmas.List.{length-drop, take-append-le, drop-append-le, take_all}
 use Rattle.order_search.specs.Rows.{pieces_to, AreEnds, numbered_row, piece_start}
 
--- as many as there are ends
+-- as many lists as there are ends
 pub as_many : {X : Type 0} (from : ℕ) (ends : List ℕ) (numbers : List X) → length (pieces_to from ends numbers) ≡ length ends
 as_many from [] numbers = refl
 as_many from (end ∷ ends) numbers = ap suc (as_many end ends numbers)
@@ -38,7 +38,7 @@ row_is from (end ∷ ends) numbers (suc (suc number)) within = row_is end ends n
 
 pub ruleset piece = (row_is, is_piece, as_many)
 
--- a piece is as before when more numbers follow
+-- a piece stays the same when more numbers follow
 within_still : {X : Type 0} (numbers more : List X) (from end : ℕ) → from ≤ end → end ≤ length numbers →
     slice_range (numbers ++ more) from end ≡ slice_range numbers from end
 within_still numbers more from end order inside =
@@ -50,7 +50,7 @@ last_piece numbers more from is =
     ap (take (length numbers + length more - from)) (ap (λ n. drop n (numbers ++ more)) is ∙ drop-append_seam numbers more)
     ∙ take_all (length numbers + length more - from) more (omega (arith, is))
 
--- one list more
+-- one more list
 pub one_more : {X : Type 0} (from : ℕ) (ends : List ℕ) (numbers more : List X) → AreEnds from ends (length numbers) →
     pieces_to from (ends ++ (length numbers + length more) ∷ []) (numbers ++ more) ≡ pieces_to from ends numbers ++ more ∷ []
 one_more from [] numbers more h = ap (λ l. l ∷ []) (last_piece numbers more from h)

@@ -1,4 +1,4 @@
--- The order of the search is a total order, and goes on with the paths.
+-- The order of the search is a total order, and extending paths preserves it.
 use Rattle.std.proofs.Common.{◌≡◌, ℕ, ◌+◌, ◌<◌, List, [], ◌∷◌, ◌++◌, length, refl, sym, ap, subst, ◌∙◌, arith, ◌⊎◌, inl, inr}
 use Rattle.std.proofs.Math.Nat.{eq-or-lt_of_le}
 use Rattle.std.proofs.lemmas.Bool.{cases_order}
@@ -65,23 +65,23 @@ unfolding Precedes
 not_itself a (inl l) = omega (arith, l)
 not_itself a (inr (e, l)) = lower_irreflexive a l
 
--- an earlier path goes on earlier
+-- extensions of an earlier path are earlier
 pub goes_on : (a b : List ℕ) (m k : ℕ) → Precedes a b → Precedes (a ++ m ∷ []) (b ++ k ∷ [])
 unfolding Precedes
 goes_on a b m k (inl l) = inl (omega (arith, l, length-append a (m ∷ []), length-append b (k ∷ [])))
 goes_on a b m k (inr (e, l)) = inr (omega (arith, e, length-append a (m ∷ []), length-append b (k ∷ [])), lower_append a b (m ∷ []) (k ∷ []) l)
 
--- and by an earlier edge
+-- and so is an extension by an earlier edge
 pub by_earlier_edge : (a : List ℕ) (m k : ℕ) → m < k → Precedes (a ++ m ∷ []) (a ++ k ∷ [])
 unfolding Precedes
 by_earlier_edge a m k h = inr (omega (arith, length-append a (m ∷ []), length-append a (k ∷ [])), lower_last a m k h)
 
--- a path is before those that go on from it
+-- a path is before its extensions
 pub is_begun : (a : List ℕ) (m : ℕ) → Precedes a (a ++ m ∷ [])
 unfolding Precedes
 is_begun a m = inl (omega (arith, length-append a (m ∷ [])))
 
--- where a path comes before another, what it begins with does
+-- if a path comes before another, so do its prefixes
 pub begins_before : (a : List ℕ) (k : ℕ) (more b : List ℕ) → Precedes (a ++ k ∷ more) b → Precedes (a ++ k ∷ []) b
 unfolding Precedes
 begins_before a k [] b h = h
@@ -109,7 +109,7 @@ pub precedes_not_after : (a b c : List ℕ) → Precedes a b → IsNotAfter b c 
 precedes_not_after a b c h (inl e) = subst (Precedes a) e h
 precedes_not_after a b c h (inr l) = precedes_trans a b c h l
 
--- of two paths the one is not after the other, or this is before it
+-- of two paths, either the first is not after the second, or the second is before it
 pub not_after_or : (a b : List ℕ) → IsNotAfter a b ⊎ Precedes b a
 unfolding Precedes
 not_after_or a b = by_length (cases_order (length a) (length b))
@@ -142,7 +142,7 @@ lower_next (x ∷ xs) (y ∷ ys) m same (inr (e, rest)) = by (lower_next xs ys m
     by (inl f) = inl (cc)
     by (inr l) = inr (inr (e, l))
 
--- nothing comes between an edge and the next one of the same node but what goes on from there
+-- between an edge and the next one of the same node there are only extensions of the first
 pub next_edge : (p a : List ℕ) (m : ℕ) → Precedes p (a ++ (m + 1) ∷ []) → IsNotAfter p (a ++ m ∷ [])
 unfolding Precedes
 next_edge p a m (inl shorter) = inr (inl (omega (arith, shorter, length-append a (m ∷ []), length-append a ((m + 1) ∷ []))))

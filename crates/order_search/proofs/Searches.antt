@@ -1,4 +1,4 @@
--- What the loop over the nodes keeps, from its start to its end.
+-- What the loop over the nodes maintains, from its start to its end.
 use Rattle.std.proofs.Common.{◌≡◌, ℕ, ◌+◌, ◌≤◌, ◌<◌, List, [], ◌∷◌, length, get_or, Option, Some, None, refl, sym, ap, subst, arith}
 use Rattle.std.specs.List.{All}
 use Rattle.order_search.specs.declared.breadth_first.SearchAnswer.{SearchAnswer}
@@ -43,7 +43,7 @@ module _ {L F : Type 0} (known : List ℕ → Type 0) (leads : EdgesOf L) (wrong
       (subst (λ l. Progress known leads wrong flawed first most (first ∷ []) l rows 0 0 0) (sym none)
       (subst (λ l. Progress known leads wrong flawed first most (first ∷ []) [] l 0 0 0) (sym no_rows) (start some is_known)))
 
-  -- the rows of all nodes have numbers of nodes
+  -- the rows of all nodes contain numbers of nodes
   pub rows_within : (nodes : List (List ℕ)) (entered : List (Entered L)) (rows : List (List ℕ)) (at moves dead : ℕ) → length nodes ≤ at →
       Progress known leads wrong flawed first most nodes entered rows at moves dead → All (λ row. All (λ to. to < length rows) row) rows
   rows_within nodes entered rows at moves dead ended p i d within j e inside =
@@ -70,7 +70,7 @@ module _ {L F : Type 0} (known : List ℕ → Type 0) (leads : EdgesOf L) (wrong
 module _ {L F : Type 0} (known : List ℕ → Type 0) (leads : EdgesOf L) (wrong : EdgeFaults L F) (flawed : NodeFaults F) (most : ℕ) (first : List ℕ)
     (old nodes : List (List ℕ))
     (entered : List (Entered L)) (rows : List (List ℕ)) (at moves dead : ℕ) (answer : Option (SearchAnswer L F)) where
-  -- where a node gives no answer
+  -- if a node gives no answer
   pub went_on : ((a : SearchAnswer L F) → answer ≡ Some a → ⊥) → Visits known leads wrong flawed most old nodes entered rows at moves dead answer →
       node_at old 0 ≡ first → Progress known leads wrong flawed first most nodes entered rows (at + 1) moves dead
   went_on none visits begins = by answer none visits
@@ -81,7 +81,7 @@ module _ {L F : Type 0} (known : List ℕ → Type 0) (leads : EdgesOf L) (wrong
       by None none visits = subst (λ f. Progress known leads wrong flawed f most nodes entered rows (at + 1) moves dead) begins visits
       by (Some b) none visits = absurd (none b refl)
 
-  -- where it does
+  -- if it does
   pub answered_early : (a : SearchAnswer L F) → answer ≡ Some a → Visits known leads wrong flawed most old nodes entered rows at moves dead answer →
       node_at old 0 ≡ first → AnswersOf known leads wrong flawed first most a
   answered_early a is visits begins =

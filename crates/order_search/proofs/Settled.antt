@@ -1,4 +1,4 @@
--- That the counts of routes from which no more follow are those of the graph.
+-- The counts of routes from which no more follow are those of the graph.
 use Rattle.std.proofs.Common.{◌≡◌, ◌≢◌, cond, ℕ, zero, suc, ◌+◌, ◌<◌, ◌^◌, List, [], ◌∷◌, length, get_or, slice_get, replicate, Bool, true, false, refl, sym, ap, subst, ◌∙◌, arith, ◌⊎◌, inl, inr, Some}
 use Rattle.std.specs.List.{fold}
 use Rattle.std.specs.Prelude.{nat_lt}
@@ -61,7 +61,7 @@ module _ {L : Type 0} (leads : EdgesOf L) (nodes : List (List ℕ)) (rows : List
       by i (inr (inl below)) = other i (λ same. omega (arith, below, same))
       by i (inr (inr above)) = other i (λ same. omega (arith, above, same))
 
-  -- all counts that followed are right
+  -- all counts that have followed are right
   pub swept : (counts : List Count) → Sweeps rows (replicate (length rows) Open) counts → AreKnown counts
   swept counts (unchanged _ same) = record {
     depth = 0;
@@ -90,7 +90,7 @@ module _ {L : Type 0} (leads : EdgesOf L) (nodes : List (List ℕ)) (rows : List
     is_open_there = h.is_open_there;
   }
 
-  -- where a sum is open, one of the counts is
+  -- if a sum is open, one of the counts is
   open_part : (counts : List Count) (sum : Count) (row : List ℕ) (es : List (EdgeView L)) → AreTargets nodes row es →
       is_open_count (fold (λ s n. plus_count s (count_at counts n)) sum row) ≡ true → (is_open_count sum ≡ true) ⊎ LeadsToOpen counts es
   open_part counts sum [] es all h = inl h
@@ -114,7 +114,7 @@ module _ {L : Type 0} (leads : EdgesOf L) (nodes : List (List ℕ)) (rows : List
       by (inl never) = absurd (cc)
       by (inr found) = found
 
-  -- so paths of any number of edges lead on from an open node, where no count follows
+  -- so if no count follows, there are paths of any number of edges from an open node
   endless : (counts : List Count) → length rows ≡ length nodes → IsStuckFrom rows counts 0 → (count i : ℕ) → i < length rows →
       is_open_count (count_at counts i) ≡ true → HasPath leads (node_at nodes i) count
   unfolding IsEdgePath
@@ -128,7 +128,7 @@ module _ {L : Type 0} (leads : EdgesOf L) (nodes : List (List ℕ)) (rows : List
         long = ap suc rest.long;
       }
 
-  -- what the counts answer is so
+  -- the answer of the counts is true
   pub answered : (answer : Orders) → length rows ≡ length nodes → 0 < length rows → IsSettled rows answer → AreOrders leads (node_at nodes 0) answer
   answered answer whole some h = subst (AreOrders leads (node_at nodes 0)) (sym h.is) (by (count_at h.counts 0) refl)
     where

@@ -1,4 +1,4 @@
--- Going through the nodes once, and again: what counts follow.
+-- Visiting all nodes once or several times: which counts follow.
 use Rattle.std.proofs.Common.{◌≡◌, ℕ, ◌-◌, ◌<◌, List, length, Bool, true, false, cond, ◌||◌, refl, sym, ap, subst, ◌∙◌, arith, ◌⊎◌, inl, inr}
 use Rattle.std.proofs.Math.Nat.{eq-or-lt_of_le}
 use Rattle.std.proofs.lemmas.List.Sums.{sum_by-set}
@@ -7,7 +7,7 @@ use Rattle.order_search.specs.declared.orders.Count.TheVariants.{Open}
 use Rattle.order_search.specs.Counting.{is_open_count, count_at, count_of, open_count, CountFollows, SettlesCount, Sweeps, unchanged, one_more, IsStuckFrom, SettlesFrom}
 use Rattle.order_search.specs.Rows.{numbered_row}
 
--- a count that follows is open no longer
+-- a count that follows is no longer open
 fewer : (rows : List (List ℕ)) (old new : List Count) (number : ℕ) → CountFollows rows old new number → open_count new < open_count old
 fewer rows old new number h =
     let set_sum = sum_by-set (λ c. cond (is_open_count c) 1 0) old number (count_of old (numbered_row rows number)) Open h.within in
@@ -38,7 +38,7 @@ one_settled rows first old new from false false above h k = (k.0 ∙ h.0, λ i l
         subst (λ l. is_open_count (count_of l (numbered_row rows i)) ≡ true) (sym k.0)
         (h.1 i (omega (arith, late, above)) within (ap (λ l. is_open_count (count_at l i)) (sym k.0) ∙ open_here))
 
--- turn after turn
+-- pass after pass
 pub swept_on : (rows : List (List ℕ)) (first old new : List Count) → Sweeps rows first old → Sweeps rows old new → Sweeps rows first new
 swept_on rows first old new h (unchanged _ same) = subst (Sweeps rows first) (sym same) h
 swept_on rows first old new h (one_more before _ number rest follows) = one_more before new number (swept_on rows first old before h rest) follows
@@ -52,7 +52,7 @@ pub one_swept : (rows : List (List ℕ)) (old new : List Count) (number : ℕ) (
 one_swept rows old new number true k = one_more old new number (unchanged old refl) k
 one_swept rows old new number false k = unchanged new k.0
 
--- a turn that finds something, and one that does not
+-- a pass that finds something, and one that does not
 pub turn_on : (rows : List (List ℕ)) (first old new : List Count) (found : Bool) → found ≡ true → Sweeps rows first old →
     SettlesFrom rows old new 0 found → Sweeps rows first new
 turn_on rows first old new true is h k = swept_on rows first old new h k.0

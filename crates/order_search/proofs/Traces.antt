@@ -5,7 +5,7 @@ use Rattle.order_search.specs.declared.trail.Entered.{Entered}
 use Rattle.order_search.specs.Exploring.{LabelsTo, at_first, by_edge, EndsWithLabel}
 
 module _ {L : Type 0} (entered : List (Entered L)) (number : ℕ) (label : L) where
-  -- the labels so far, from the last on, lead from the node at `at` to that with the number, and one edge on
+  -- the labels so far, from the last on, lead from the node at `at` to the node with the number, and one edge further
   abbrev pub LeadsFrom : List L → ℕ → Type 0
   LeadsFrom labels at = (tail : List L) × (reverse labels ≡ tail ++ label ∷ []) ×
       ((before : List L) → LabelsTo entered at before → LabelsTo entered number (before ++ tail))

@@ -1,4 +1,4 @@
--- What follows from going through one edge, at the end of the edges of a node, and at the end of the search.
+-- What follows from visiting one edge, at the end of the edges of a node, and at the end of the search.
 use Rattle.std.proofs.Common.{◌≡◌, ℕ, zero, suc, ◌+◌, ◌^◌, ◌<◌, ◌≤◌, List, [], ◌∷◌, ◌++◌, length, map, take, get_or, slice_get, cond, Bool, true, false, Option, Some, None, refl, sym, ap, subst, ◌∙◌, arith, ◌⊎◌, inl, inr}
 use Rattle.std.specs.Prelude.{sum_by, Result, Ok, Err, IfOk, IfNone, MatchOption}
 use Rattle.std.proofs.lemmas.Option.{get_or_from_slice_get}
@@ -25,7 +25,7 @@ use Rattle.order_search.proofs.Along.{least, listed_before, has_reached, none_at
 use Rattle.order_search.proofs.Ordered.{in_order}
 use Rattle.order_search.proofs.Counts.{slice_get_seam}
 
--- numbers of nodes are those of a longer list
+-- numbers of nodes stay valid in a longer list
 targets_still : {L : Type 0} (nodes new : List (List ℕ)) (row : List ℕ) (es : List (EdgeView L)) → length nodes ≤ length new →
     ((k : ℕ) → k < length nodes → node_at new k ≡ node_at nodes k) → AreTargets nodes row es → AreTargets new row es
 targets_still nodes new [] [] longer same h = tt
@@ -43,7 +43,7 @@ targets_push nodes [] (d ∷ ds) to e h last = absurd h
 targets_push nodes (n ∷ row) [] to e h last = absurd h
 targets_push nodes (n ∷ row) (d ∷ ds) to e h last = (h.0, targets_push nodes row ds to e h.1 last)
 
--- the numbers of nodes are below how many nodes there are
+-- the numbers of nodes are below the number of nodes
 pub targets_below : {L : Type 0} (nodes : List (List ℕ)) (row : List ℕ) (es : List (EdgeView L)) → AreTargets nodes row es →
     (k d : ℕ) → k < length row → get_or row k d < length nodes
 targets_below nodes [] es h k d within = absurd (omega (arith, within))
@@ -51,13 +51,13 @@ targets_below nodes (to ∷ row) [] h k d within = absurd h
 targets_below nodes (to ∷ row) (e ∷ es) h zero d within = h.0.within
 targets_below nodes (to ∷ row) (e ∷ es) h (suc k) d within = targets_below nodes row es h.1 k d (omega (arith, within))
 
--- what going through an edge did, of an equal answer
+-- what visiting an edge did, for an equal answer
 pub reread : {L F : Type 0} (wrong : EdgeFaults L F) (flawed : NodeFaults F) (nodes new : List (List ℕ)) (entered after : List (Entered L)) (at : ℕ)
     (e : EdgeView L) (answer same : Passed F) → answer ≡ same → GoesAlong wrong flawed nodes new entered after at e answer →
     GoesAlong wrong flawed nodes new entered after at e same
 reread wrong flawed nodes new entered after at e answer same a h = subst (GoesAlong wrong flawed nodes new entered after at e) a h
 
--- an edge that was gone through without a fault says none, and so leads to a node
+-- an edge that was visited without a fault reports none, and so leads to a node
 pub leads_to_node : {L F : Type 0} (known : Type 0) (wrong : EdgeFaults L F) (flawed : NodeFaults F) (nodes new : List (List ℕ)) (entered after : List
     (Entered L))
     (at to : ℕ) (e : EdgeView L) (said : Option F) → GoesAlong wrong flawed nodes new entered after at e (Node to) →
@@ -68,7 +68,7 @@ leads_to_node known wrong flawed nodes new entered after at to e None goes judge
 leads_to_node known wrong flawed nodes new entered after at to e (Some fault) goes (inl own) leads = absurd (goes.0.edge fault own)
 leads_to_node known wrong flawed nodes new entered after at to e (Some fault) goes (inr (none, there)) leads = absurd (goes.0.node fault there)
 
--- the next edge of a list that is gone through leaves the node, at the next place
+-- the next edge of a list that is visited leaves the node, at the next place
 pub leaving : {A L : Type 0} (see : A → EdgeView L) (leads : EdgesOf L) (yielded items left : List A) (edge : A) (node here : List ℕ) →
     items ≡ edge ∷ left → map see yielded ++ map see items ≡ leads node → here ≡ node → slice_get (leads here) (length yielded) ≡ Some (see edge)
 leaving see leads yielded items left edge node here next rest same =
@@ -76,7 +76,7 @@ leaving see leads yielded items left edge node here next rest same =
     ∙ ap (slice_get (map see yielded ++ see edge ∷ map see left)) (sym (length-map yielded see))
     ∙ slice_get_seam (map see yielded) (see edge) (map see left)
 
--- and what is left of the list is shorter by it
+-- and the rest of the list is shorter by it
 pub moved : {A B : Type 0} (see : A → B) (yielded items left : List A) (edge : A) → items ≡ edge ∷ left →
     map see (yielded ++ edge ∷ []) ++ map see left ≡ map see yielded ++ map see items
 moved see yielded items left edge next =
@@ -153,7 +153,7 @@ module _ {L F : Type 0} (known : List ℕ → Type 0) (leads : EdgesOf L) (wrong
         earlier = listed_before leads wrong flawed first nodes entered at part x inside;
       }
 
-  -- so what leads to its nodes is as before
+  -- so what leads to its nodes stays the same
   pub earlier : (e : EdgeView L) (fault : F) → GoesAlong wrong flawed nodes new entered after at e (Fault fault) →
       Explored leads wrong flawed first nodes entered at part → (k : ℕ) (by : Entered L) → slice_get after k ≡ Some by → by.from ≤ k
   earlier e fault passes x k by there =
@@ -180,7 +180,7 @@ module _ {L F : Type 0} (known : List ℕ → Type 0) (leads : EdgesOf L) (wrong
             (least leads wrong flawed first new after at (part + 1) x (omega (arith, inside, h.longer)) places path fault ends);
       }
 
-  -- the search goes on with the next edge
+  -- the search continues with the next edge
   pub went_on : (most to : ℕ) (e : EdgeView L) (rows : List (List ℕ)) → at < length nodes → length new ≤ most →
       IsUnderWay known leads wrong flawed first most nodes entered rows at part → PassedOn known leads wrong flawed first nodes new after at (part + 1) to e →
       IsUnderWay known leads wrong flawed first most new after rows at (part + 1)
@@ -261,14 +261,14 @@ module _ {L F : Type 0} (known : List ℕ → Type 0) (leads : EdgesOf L) (wrong
     bounded = omega (arith, more_edges, few, p.bounded);
   }
 
--- a mapped list is empty where the list is
+-- a mapped list is empty if and only if the list is
 pub none_alike : {A B : Type 0} (see : A → B) (items : List A) → is_none (map see items) ≡ is_none items
 none_alike see [] = refl
 none_alike see (item ∷ items) = refl
 
 module _ {L F A E : Type 0} (known : List ℕ → Type 0) (leads : EdgesOf L) (wrong : EdgeFaults L F) (flawed : NodeFaults F) (most : ℕ)
     (old nodes : List (List ℕ)) (before entered : List (Entered L)) (rows after : List (List ℕ)) (at : ℕ) where
-  -- what going through all edges of a node gives, with the totals
+  -- the result of visiting all edges of a node, with the totals
   pub visits : (see : A → EdgeView L) (items : List A) (node : List ℕ) (result : Result (Option (SearchAnswer L F)) E) (moves dead edges ends : ℕ) →
       at < length old → Progress known leads wrong flawed (node_at old 0) most old before rows at moves dead → slice_get old at ≡ Some node →
       map see items ≡ leads node → length items < 2 ^ 32 → edges ≡ moves + length items → ends ≡ dead + cond (is_none items) 1 0 →

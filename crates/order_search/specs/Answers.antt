@@ -1,12 +1,12 @@
--- What a breadth-first search answers (from graph theory).
+-- The answer of a breadth-first search (from graph theory).
 use Rattle.std.specs.Prelude.{◌≡◌, ◌≢◌, ℕ, ◌≤◌, ◌<◌, List, length, map, sum_by, count_by}
 use Rattle.std.specs.List.{Contains, AllPairs}
 use Rattle.order_search.specs.Paths.{EdgeView, EdgesOf, EdgeFaults, NodeFaults, IsEdgePath, path_end, IsReachable, EndsInFault}
 use Rattle.order_search.specs.Routes.{is_none}
 use Rattle.order_search.specs.SearchOrder.{Precedes, IsNotAfter}
 
--- the labels of the first path, in the order of the search, that ends in a fault; so none that ends in a fault is shorter. The nodes
--- to which an earlier path leads are at most `most`
+-- the labels of the first path, in the order of the search, that ends in a fault; so no shorter path ends in a fault.
+-- At most `most` nodes are reached by earlier paths
 pub record IsFirstFault {L F : Type 0} (leads : EdgesOf L) (wrong : EdgeFaults L F) (flawed : NodeFaults F) (first : List ℕ) (most : ℕ)
     (labels : List L) (fault : F) : Type 0 where
   pub places : List ℕ
@@ -19,7 +19,7 @@ pub record IsFirstFault {L F : Type 0} (leads : EdgesOf L) (wrong : EdgeFaults L
   pub earlier : (others : List ℕ) (path : List (EdgeView L)) → IsEdgePath leads first others path → Precedes others places →
       Contains nodes (path_end first path)
 
--- a path to the one node comes before each path to the other
+-- a path to the first node comes before each path to the second
 pub record HasEarlierPath {L : Type 0} (leads : EdgesOf L) (first earlier later : List ℕ) : Type 0 where
   pub places : List ℕ
   pub edges : List (EdgeView L)
@@ -27,8 +27,8 @@ pub record HasEarlierPath {L : Type 0} (leads : EdgesOf L) (first earlier later 
   pub end : path_end first edges ≡ earlier
   pub before : (others : List ℕ) (path : List (EdgeView L)) → IsEdgePath leads first others path → path_end first path ≡ later → Precedes places others
 
--- all nodes that are reached, each once, in the order in which they are first reached, at most `most`; how many edges leave them, and how
--- many of them no edge leaves; and no path ends in a fault
+-- all nodes that are reached, each once, in the order in which they are first reached, at most `most`; how many edges
+-- leave them, and how many of them have no outgoing edge; and no path ends in a fault
 pub record IsCounted {L F : Type 0} (leads : EdgesOf L) (wrong : EdgeFaults L F) (flawed : NodeFaults F) (first : List ℕ) (most : ℕ)
     (nodes : List (List ℕ)) (moves dead : ℕ) : Type 0 where
   pub once : AllPairs (λ a b. a ≢ b) nodes
@@ -48,7 +48,8 @@ pub record IsReachedBy {L : Type 0} (leads : EdgesOf L) (first last node : List 
   pub end : path_end first edges ≡ node
   pub early : IsNotAfter places last
 
--- paths that are not after one of these places reach more than `most` nodes, and each path that ends in a fault is after it
+-- paths that are not after one of these places reach more than `most` nodes, and each path that ends in a fault is
+-- after it
 pub record HasMore {L F : Type 0} (leads : EdgesOf L) (wrong : EdgeFaults L F) (flawed : NodeFaults F) (first : List ℕ) (most : ℕ) : Type 0 where
   pub nodes : List (List ℕ)
   pub last : List ℕ

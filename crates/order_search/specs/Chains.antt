@@ -6,7 +6,7 @@ use Rattle.std.specs.Hash.FoldHasher.{initial, write, finish}
 unfoldable pub hash_of : List ℕ → ℕ
 hash_of node = finish (write initial node) % 2 ^ 32
 
--- the bucket of a node with a hash, of so many
+-- the bucket of a node with a hash, of this many buckets
 abbrev pub bucket_with : ℕ → ℕ → ℕ
 bucket_with buckets hash = hash % buckets
 
@@ -14,7 +14,8 @@ bucket_with buckets hash = hash % buckets
 unfoldable pub bucket_of : ℕ → List ℕ → ℕ
 bucket_of buckets node = bucket_with buckets (hash_of node)
 
--- 1 more than the highest number below `from` that is in the bucket, or 0 where none is; these are the buckets of the numbers
+-- 1 more than the highest number below `from` that is in the bucket, or 0 if there is none; these are the buckets of
+-- the numbers
 pub record IsHighestBelow (buckets : List ℕ) (bucket from top : ℕ) : Type 0 where
   pub below : top ≤ from
   pub there : 0 < top → slice_index buckets (top - 1) ≡ bucket

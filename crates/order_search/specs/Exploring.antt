@@ -19,8 +19,8 @@ pub record HasPredecessor {L : Type 0} (leads : EdgesOf L) (nodes : List (List �
   pub node : node_at nodes number ≡ edge.node
   pub path : paths number ≡ paths by.from ++ place ∷ []
 
--- the edge at this place of the node with this number has no fault, and leads to a node of the list that this edge or an
--- earlier path reached first
+-- the edge at this place of the node with this number has no fault, and leads to a node of the list that this edge or
+-- an earlier path reached first
 pub record IsGoneThrough {L F : Type 0} (wrong : EdgeFaults L F) (flawed : NodeFaults F) (nodes : List (List ℕ)) (paths : ℕ → List ℕ) (number place : ℕ)
     (edge : EdgeView L) : Type 0 where
   pub sound : IsFaultless wrong flawed (node_at nodes number) edge
@@ -29,7 +29,8 @@ pub record IsGoneThrough {L F : Type 0} (wrong : EdgeFaults L F) (flawed : NodeF
   pub node : node_at nodes to ≡ edge.node
   pub early : IsNotAfter (paths to) (paths number ++ place ∷ [])
 
--- the nodes that were reached, how each but the first was, and all edges of those before `at` gone through, and this many of that at `at`
+-- the nodes that were reached, and how each except the first was; all edges of those before `at`, and this many edges
+-- of the node at `at`, have been visited
 pub record Explored {L F : Type 0} (leads : EdgesOf L) (wrong : EdgeFaults L F) (flawed : NodeFaults F) (first : List ℕ)
     (nodes : List (List ℕ)) (entered : List (Entered L)) (at part : ℕ) : Type 0 where
   pub paths : ℕ → List ℕ
@@ -66,19 +67,20 @@ pub record LeadsOn {L F : Type 0} (flawed : NodeFaults F) (old new : List (List 
   pub nodes : new ≡ old ++ e.node ∷ []
   pub more : after ≡ entered ++ record { from = at; label = e.label } ∷ []
 
--- how each node was reached, with one more if it is new
+-- how each node was reached, and one more if it is new
 abbrev pub entered_if : {L : Type 0} → Bool → List (Entered L) → Entered L → List (Entered L)
 entered_if is_new entered by = if is_new then entered ++ by ∷ [] else entered
 
--- what going through an edge of the node at `at` does to the nodes reached, and to how each was; the answer is the edge's fault, or
--- else the number of the node that it leads to
+-- how visiting an edge of the node at `at` changes the nodes reached, and how each was reached; the answer is the
+-- edge's fault, or otherwise the number of the node that it leads to
 unfoldable pub GoesAlong : {L F : Type 0} → EdgeFaults L F → NodeFaults F → List (List ℕ) → List (List ℕ) → List (Entered L) → List (Entered L) →
     ℕ → EdgeView L → Passed F → Type 0
 GoesAlong wrong flawed old new entered after at e (Fault fault) = HasEdgeFault wrong flawed (node_at old at) e fault × (after ≡ entered)
 GoesAlong wrong flawed old new entered after at e (Node to) =
     IsFaultless wrong flawed (node_at old at) e × (LeadsBack old new entered after e to ⊎ LeadsOn flawed old new entered after at e to)
 
--- a list of labels with one more at its end, which leads to the node with a number and on by an edge with a label
+-- a list of labels with one more at its end: the list leads to the node with a number, and from there an edge with the
+-- last label
 pub record EndsWithLabel {L : Type 0} (entered : List (Entered L)) (number : ℕ) (label : L) (labels : List L) : Type 0 where
   pub before : List L
   pub lead : LabelsTo entered number before

@@ -10,14 +10,14 @@ pub record EdgeView (L : Type 0) : Type 0 where
 abbrev pub EdgesOf : Type 0 → Type 0
 EdgesOf L = List ℕ → List (EdgeView L)
 
--- what may be wrong with an edge that leaves a node, and what with a node
+-- what may be wrong with an edge that leaves a node, and what may be wrong with a node
 abbrev pub EdgeFaults : Type 0 → Type 0 → Type 1
 EdgeFaults L F = List ℕ → EdgeView L → F → Type 0
 
 abbrev pub NodeFaults : Type 0 → Type 1
 NodeFaults F = List ℕ → F → Type 0
 
--- a path from a node: the place of each edge among those that leave the node where it begins, and the edge
+-- a path from a node: for each edge its place among the edges that leave its source, and the edge
 unfoldable pub IsEdgePath : {L : Type 0} → EdgesOf L → List ℕ → List ℕ → List (EdgeView L) → Type 0
 IsEdgePath leads from [] [] = Unit {0}
 IsEdgePath leads from [] (e ∷ es) = ⊥
@@ -29,14 +29,14 @@ unfoldable pub path_end : {L : Type 0} → List ℕ → List (EdgeView L) → Li
 path_end from [] = from
 path_end from (e ∷ es) = path_end e.node es
 
--- a path leads from the one node to the other
+-- a path leads from one node to the other
 pub record IsReachable {L : Type 0} (leads : EdgesOf L) (from to : List ℕ) : Type 0 where
   pub places : List ℕ
   pub edges : List (EdgeView L)
   pub path : IsEdgePath leads from places edges
   pub end : path_end from edges ≡ to
 
--- the fault of going through an edge: its own, or otherwise one of the node that it leads to
+-- the fault of visiting an edge: its own, or otherwise one of the node that it leads to
 unfoldable pub HasEdgeFault : {L F : Type 0} → EdgeFaults L F → NodeFaults F → List ℕ → EdgeView L → F → Type 0
 HasEdgeFault {L} {F} wrong flawed from e fault = wrong from e fault ⊎ (((other : F) → wrong from e other → ⊥) × flawed e.node fault)
 

@@ -2,8 +2,8 @@
 use Rattle.std.specs.Prelude.{ℕ, List}
 use Rattle.order_search.specs.declared.orders.Orders.{Orders}
 
--- the nodes, in the order in which they were first reached; for each the numbers of the nodes to which its edges lead; how many edges there
--- are; how many nodes no edge leaves; and how many routes lead to these
+-- the nodes, in the order in which they were first reached; for each node the numbers of the nodes to which its edges
+-- lead; the number of edges; the number of nodes without outgoing edges; and the number of routes that lead to these
 pub record ReachedGraph : Type 0 where
   pub nodes : List (List ℕ)
   pub rows : List (List ℕ)

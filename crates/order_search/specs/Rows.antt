@@ -5,12 +5,12 @@ use Rattle.order_search.specs.declared.reached.NumberedEdge.{NumberedEdge}
 use Rattle.order_search.specs.Numbers.{node_at}
 use Rattle.order_search.specs.Paths.{EdgeView, EdgesOf}
 
--- a list in pieces: from the place `from` to each of these ends in turn
+-- a list in pieces: from the index `from` to each of these ends in turn
 abbrev pub pieces_to : {X : Type 0} → ℕ → List ℕ → List X → List (List X)
 pieces_to from [] list = []
 pieces_to from (end ∷ ends) list = slice_range list from end ∷ pieces_to end ends list
 
--- the ends do not fall from the place `from` on, and the last of them is `total`
+-- the ends do not decrease from `from` on, and the last of them is `total`
 abbrev pub AreEnds : ℕ → List ℕ → ℕ → Type 0
 AreEnds from [] total = from ≡ total
 AreEnds from (end ∷ ends) total = (from ≤ end) × AreEnds end ends total

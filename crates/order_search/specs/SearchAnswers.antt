@@ -12,7 +12,7 @@ use Rattle.order_search.specs.ReachedGraph.{ReachedGraph}
 use Rattle.order_search.specs.Routes.{is_none, AreOrders}
 use Rattle.order_search.specs.Rows.{AreRows}
 
--- what was reached: all is counted, each row has the targets of its node, and so many routes lead to the ends
+-- what was reached: all is counted, each row has the targets of its node, and this many routes lead to the ends
 pub record IsReachedGraph {L F : Type 0} (known : List ℕ → Type 0) (leads : EdgesOf L) (wrong : EdgeFaults L F) (flawed : NodeFaults F) (first : List ℕ)
     (most : ℕ) (reached : ReachedGraph) : Type 0 where
   pub counted : IsCounted leads wrong flawed first most reached.nodes reached.edges reached.ends
@@ -27,7 +27,7 @@ AnswersOf known leads wrong flawed first most (Found labels fault) = IsFirstFaul
 AnswersOf known leads wrong flawed first most (Counted reached) = IsReachedGraph known leads wrong flawed first most reached
 AnswersOf known leads wrong flawed first most TooMany = HasMore leads wrong flawed first most
 
--- the nodes and rows of a search that is at the node with this number, of whose edges these many were gone through
+-- the nodes and rows of a search that is at the node with this number and has visited this many of its edges
 pub record IsUnderWay {L F : Type 0} (known : List ℕ → Type 0) (leads : EdgesOf L) (wrong : EdgeFaults L F) (flawed : NodeFaults F) (first : List ℕ) (most : ℕ)
     (nodes : List (List ℕ)) (entered : List (Entered L)) (rows : List (List ℕ)) (at part : ℕ) : Type 0 where
   pub explored : Explored leads wrong flawed first nodes entered at part
@@ -36,7 +36,7 @@ pub record IsUnderWay {L F : Type 0} (known : List ℕ → Type 0) (leads : Edge
   pub as_many : length rows ≡ at
   pub targets : AreRows leads nodes rows
 
--- before the node at `at` is gone through: those before it were, with these totals
+-- before the node at `at` is visited: those before it have been, with these totals
 pub record Progress {L F : Type 0} (known : List ℕ → Type 0) (leads : EdgesOf L) (wrong : EdgeFaults L F) (flawed : NodeFaults F) (first : List ℕ) (most : ℕ)
     (nodes : List (List ℕ)) (entered : List (Entered L)) (rows : List (List ℕ)) (at moves dead : ℕ) : Type 0 where
   pub under_way : IsUnderWay known leads wrong flawed first most nodes entered rows at 0
@@ -46,14 +46,15 @@ pub record Progress {L F : Type 0} (known : List ℕ → Type 0) (leads : EdgesO
   pub few : dead ≤ at
   pub bounded : moves ≤ at * 4294967295
 
--- after the edges of the node at `at`: all were gone through, and the nodes up to it are as before; or there is an answer
+-- after the edges of the node at `at`: all have been visited, and the nodes up to it are as before; or there is an
+-- answer
 abbrev pub PassesEdges : {L F : Type 0} → (List ℕ → Type 0) → EdgesOf L → EdgeFaults L F → NodeFaults F → ℕ → List (List ℕ) → List (List ℕ) →
     List (Entered L) → List (List ℕ) → ℕ → Option (SearchAnswer L F) → Type 0
 PassesEdges known leads wrong flawed most old new entered rows at None =
     IsUnderWay known leads wrong flawed (node_at old 0) most new entered rows (at + 1) 0 × (take (at + 1) new ≡ take (at + 1) old)
 PassesEdges known leads wrong flawed most old new entered rows at (Some answer) = AnswersOf known leads wrong flawed (node_at old 0) most answer
 
--- after the node at `at` was gone through: the search goes on, or there is an answer
+-- after the node at `at` was visited: the search goes on, or there is an answer
 abbrev pub Visits : {L F : Type 0} → (List ℕ → Type 0) → EdgesOf L → EdgeFaults L F → NodeFaults F → ℕ → List (List ℕ) → List (List ℕ) →
     List (Entered L) → List (List ℕ) → ℕ → ℕ → ℕ → Option (SearchAnswer L F) → Type 0
 Visits known leads wrong flawed most old new entered rows at moves dead None =

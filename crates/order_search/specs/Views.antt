@@ -1,4 +1,4 @@
--- What an edge of the code means.
+-- The meaning of an edge in the code.
 use Rattle.std.specs.Prelude.{ℕ, Option, MatchOption}
 use Rattle.order_search.specs.declared.graph.Edge.{Edge}
 use Rattle.order_search.specs.declared.reached.NumberedEdge.{NumberedEdge}
@@ -12,10 +12,10 @@ edge_view e = record { label = e.label; node = e.node.items }
 abbrev pub number_edge : {L F : Type 0} → Edge L F × ℕ → NumberedEdge L
 number_edge pair = record { label = pair.0.label; to = pair.1 }
 
--- the edge has the fault that it says, and none if it says none
+-- the edge has the fault that it reports, and none if it reports none
 abbrev pub IsJudged : {L F : Type 0} → (EdgeView L → F → Type 0) → Edge L F → Type 0
 IsJudged {L} {F} wrong e = MatchOption e.fault ((fault : F) → wrong (edge_view e) fault → ⊥) (λ fault. wrong (edge_view e) fault)
 
--- the same of what has a fault in itself
+-- the same for whatever has a fault of its own
 abbrev pub TellsFault : {F : Type 0} → (F → Type 0) → Option F → Type 0
 TellsFault {F} flawed found = MatchOption found ((fault : F) → flawed fault → ⊥) (λ fault. flawed fault)

@@ -14,18 +14,19 @@ use crate::reached::Reached;
 use crate::trail::{Passed, Trail, pass};
 use std::alloc::{AllocError, Global};
 
-/// What a search answers.
+/// The answer of a search.
 #[derive(Drop)]
 pub enum SearchAnswer<L, F> {
-    /// The labels of the first path, in the order of the search, that ends in a fault, and the fault. None is shorter.
+    /// The labels of the first path, in the order of the search, that ends in a fault, and the fault. No shorter path
+    /// ends in a fault.
     Found { labels: Vec<L>, fault: F },
-    /// No path ends in a fault; what is reached.
+    /// No path ends in a fault; this was reached.
     Counted(Reached),
-    /// More nodes are reached than were asked for, before any fault is.
+    /// More nodes than the limit are reached, before any fault is.
     TooMany,
 }
 
-/// Goes through the edges of the node with the number `at`, and answers where that ends the search.
+/// Visits the edges of the node with the number `at`, and returns an answer if that ends the search.
 fn go_through<G: Graph>(
     alloc: Global,
     graph: &G,
@@ -60,7 +61,7 @@ fn go_through<G: Graph>(
     Ok(None)
 }
 
-/// How many edges leave the nodes that were gone through, and how many of these nodes no edge leaves.
+/// How many edges leave the nodes that were visited, and how many of these nodes have no outgoing edge.
 #[derive(Drop)]
 struct Totals {
     edges: u64,
@@ -68,7 +69,7 @@ struct Totals {
 }
 
 impl Totals {
-    /// One node more, with its edges.
+    /// The totals with one more node and its edges.
     fn with<L, F>(&self, edges: &Vec<Edge<L, F>>) -> Totals
         requires edges { self.now.edges + length edges.now.items < 2 ^ 64 }
         requires ends { self.now.ends + 1 < 2 ^ 32 }
@@ -84,7 +85,7 @@ impl Totals {
     }
 }
 
-/// Goes through the edges of the node with the number `at`, and adds them to the totals, or answers.
+/// Visits the edges of the node with the number `at`, and adds them to the totals, or returns an answer.
 fn visit<G: Graph>(
     alloc: Global,
     graph: &mut G,
@@ -104,9 +105,10 @@ fn visit<G: Graph>(
     go_through(alloc, &*graph, trail, at, edges, most)
 }
 
-/// Searches a graph from a node, breadth first: the nodes in the order in which they were first reached, and the edges of each in
-/// their order. An edge is tested when it is gone through, then the node that it leads to, if that is new, and then whether more
-/// than `most` nodes are reached. The first fault ends the search. The graph is as before.
+/// Searches a graph from a node, breadth first: the nodes in the order in which they were first reached, and the edges
+/// of each in their order. When an edge is visited, the edge is tested first, then the node that it leads to, if that
+/// is new, and then whether more than `most` nodes are reached. The first fault ends the search. The graph is as
+/// before.
 pub fn search<G: Graph>(
     alloc: Global,
     graph: &mut G,

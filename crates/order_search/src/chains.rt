@@ -6,19 +6,19 @@ ghost use Rattle.order_search.specs.Chains.{AreChains};
 
 use std::alloc::{AllocError, Global};
 
-/// For each bucket the chain of the numbers in it, from the highest down. Each number is in one bucket. In both lists a number
-/// stands as 1 more, and 0 ends a chain.
+/// For each bucket the chain of the numbers in it, from the highest down. Each number is in one bucket. Both lists
+/// store a number as 1 more, and 0 ends a chain.
 #[derive(Drop)]
 pub(crate) struct Chains {
     /// The first of each chain.
     pub(crate) heads: Vec<u32>,
 
-    /// For each number the next of its chain.
+    /// For each number the next one of its chain.
     pub(crate) links: Vec<u32>,
 }
 
 impl Chains {
-    /// No numbers, and so many buckets.
+    /// No numbers, and this many buckets.
     pub(crate) fn new(alloc: Global, buckets: usize) -> Result<Chains, AllocError>
         requires { 0 < buckets }
         ensures size { IfOk result (λ chains. length chains.heads.items ≡ buckets) }
@@ -32,8 +32,8 @@ impl Chains {
         })
     }
 
-    /// Makes room for one number more; or an error where there is no memory for it, or where there are 2^32 - 1 numbers: no
-    /// machine has the memory for so many nodes.
+    /// Makes room for one more number; or an error if there is not enough memory for it, or if there are 2^32 - 1 numbers: no
+    /// machine has the memory for that many nodes.
     pub(crate) fn reserve(&mut self) -> Result<(), AllocError>
         ensures heads { self.new.heads ≡ self.old.heads }
         ensures links { self.new.links.items ≡ self.old.links.items }

@@ -7,7 +7,7 @@ ghost use Rattle.order_search.specs.Views.{IsJudged, edge_view};
 
 use std::alloc::{AllocError, Global};
 
-/// An edge: its label, the fault of going through it, if there is one, and the node that it leads to.
+/// An edge: its label, the fault of visiting it, if there is one, and the node that it leads to.
 #[derive(Drop)]
 pub struct Edge<L, F> {
     pub label: L,
@@ -36,8 +36,8 @@ pub trait Graph {
     /// What is wrong with a node.
     ghost flawed: { Self → List ℕ → Self.Fault → Type 0 };
 
-    /// The edges that leave a node, in their order, each with its own fault, or otherwise that of the node that it leads to. Only one
-    /// without a fault need lead to a node.
+    /// The edges that leave a node, in their order, each with its own fault, or otherwise that of the node that it
+    /// leads to. Only an edge without a fault has to lead to a node.
     fn edges(
         &mut self,
         alloc: Global,

@@ -1,4 +1,4 @@
-//! Nodes, each once, with the number of its place.
+//! Nodes without duplicates, each with its index as its number.
 
 ghost use Rattle.std.specs.Prelude.{◌≡◌, ◌↔◌, ◌<◌, [], ◌∷◌, length, map, slice_get, Some, IfOk, IsTrue, MatchOption};
 ghost use Rattle.std.specs.List.{Contains};
@@ -14,8 +14,8 @@ use std::marker::Model;
 /// How many buckets an empty list has.
 const FEWEST_BUCKETS: usize = 1024;
 
-/// Nodes in the order in which they were added, with their hashes. The first has the number 0. The nodes stand one behind the
-/// other, and a node is found among those whose hashes are in its bucket.
+/// Nodes in the order in which they were added, with their hashes. The first has the number 0. The nodes are stored one
+/// after another, and a node is searched for among those whose hashes are in its bucket.
 #[derive(Drop)]
 pub(crate) struct NodeList {
     nodes: Rows<u8>,
@@ -34,7 +34,7 @@ impl Model for NodeList {
     ghost invariant = { λ list. AreChained list.nodes list.hashes.items list.chains.heads.items list.chains.links.items };
 }
 
-/// Where a node is in a list, and whether it was added last.
+/// Where a node is in a list, and whether it has just been added.
 #[derive(Drop)]
 pub(crate) struct Place {
     pub(crate) number: usize,
@@ -51,7 +51,7 @@ fn hash_of(node: &[u8]) -> u32
     (hasher.finish() % 0x1_0000_0000) as u32
 }
 
-/// The bucket of a node with this hash, of so many.
+/// The bucket of a node with this hash, of this many buckets.
 fn bucket_of(hash: u32, buckets: usize) -> usize
     requires { 0 < buckets }
     ensures bucket { result ≡ bucket_with buckets hash }
@@ -67,8 +67,8 @@ fn is_same(node: &[u8], other: &[u8]) -> bool
     node == other
 }
 
-/// Whether the node with a number is this one, which has this hash. One with another hash is not, and its bytes, which are far away in
-/// memory, are not looked at.
+/// Whether the node with a number is this one, which has this hash. One with another hash is not, and then its bytes,
+/// which are far away in memory, are not read.
 #[inline(always)]
 #[tactic(auto, using(crate::proofs::Chaining::telling))]
 fn is_there(nodes: &Rows<u8>, hashes: &[u32], number: usize, node: &[u8], hash: u32) -> bool
@@ -80,7 +80,7 @@ fn is_there(nodes: &Rows<u8>, hashes: &[u32], number: usize, node: &[u8], hash: 
     hashes[number] == hash && is_same(nodes.row(number), node)
 }
 
-/// The number of the node, which has this hash and is in this bucket, if it is one of the nodes.
+/// The number of the node, which has this hash and is in this bucket, if it is in the list.
 #[tactic(auto, using(crate::proofs::Chaining::seeking))]
 fn find(
     nodes: &Rows<u8>,
@@ -107,7 +107,7 @@ fn find(
     None
 }
 
-/// The chains of nodes with these hashes in so many buckets.
+/// The chains of nodes with these hashes in this many buckets.
 #[tactic(auto, using(crate::proofs::Chaining::chaining))]
 fn chained(alloc: Global, hashes: &[u32], buckets: usize) -> Result<Chains, AllocError>
     requires { 0 < buckets }
@@ -149,7 +149,7 @@ impl NodeList {
         self.nodes.row(number)
     }
 
-    /// Makes twice as many buckets, where there are no more than nodes.
+    /// Doubles the number of buckets if there are no more buckets than nodes.
     #[tactic(auto, using(crate::proofs::Chaining::resized))]
     fn spread(&mut self, alloc: Global) -> Result<(), AllocError>
         ensures { self.new ≡ self.old }
@@ -162,7 +162,7 @@ impl NodeList {
         Ok(())
     }
 
-    /// Adds a node, unless it is there.
+    /// Adds a node, unless it is already there.
     #[tactic(auto, using(crate::proofs::Chaining::node_chained))]
     pub(crate) fn add(&mut self, alloc: Global, node: &[u8]) -> Result<Place, AllocError>
         ensures { IfOk result (λ place. AddsNode self.old self.new node.now place.number place.is_new) }

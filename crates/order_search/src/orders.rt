@@ -11,26 +11,26 @@ use std::alloc::{AllocError, Global};
 /// How many routes lead from a node to the ends.
 #[derive(Clone, Copy, PartialEq, Eq)]
 pub enum Orders {
-    /// This many.
+    /// This many routes.
     Exactly(u64),
 
-    /// More than a `u64` holds.
+    /// More than fit into a `u64`.
     More,
 
     /// Paths of any number of edges lead from the node.
     Endless,
 }
 
-/// How many routes lead from a node to the ends, as far as this is known.
+/// How many routes lead from a node to the ends, if this is known.
 #[derive(Clone, Copy)]
 enum Count {
     /// It is not known.
     Open,
 
-    /// This many.
+    /// This many routes.
     Exactly(u64),
 
-    /// More than a `u64` holds.
+    /// More than fit into a `u64`.
     More,
 }
 
@@ -58,7 +58,7 @@ impl Count {
         }
     }
 
-    /// The sum of two counts, which is known where both are.
+    /// The sum of two counts, which is known if both are.
     fn plus(self, other: Count) -> Count
         ensures { result ≡ sum_of self other }
     {
@@ -72,7 +72,7 @@ impl Count {
         }
     }
 
-    /// What it says, where nothing more can be known.
+    /// The answer of this count, when nothing more can be known.
     fn orders(self) -> Orders
         ensures { result ≡ counted_orders self }
     {
@@ -96,7 +96,7 @@ fn total(counts: &[Count], row: &[u32]) -> Count
     sum
 }
 
-/// The count of a node whose edges lead to some nodes: 1 where there are none.
+/// The count of a node whose edges lead to some nodes: 1 if there are none.
 fn count_of(counts: &[Count], row: &[u32]) -> Count
     requires { All (λ to. to < length counts.now) row.now }
     ensures { result ≡ count_from counts.now row.now }
@@ -108,7 +108,7 @@ fn count_of(counts: &[Count], row: &[u32]) -> Count
     }
 }
 
-/// Counts the routes from a node, where those from all nodes to which its edges lead are counted. Whether it did.
+/// Counts the routes from a node, if those from all nodes to which its edges lead are counted. Returns whether it did.
 fn settle(rows: &Rows<u32>, counts: &mut [Count], number: usize) -> bool
     requires inside { number < length rows.now }
     requires as_many { length counts.old ≡ length rows.now }
@@ -186,7 +186,7 @@ fn settle_along_paths(
     Ok(())
 }
 
-/// Goes through the nodes from the last to the first, and counts the routes where it can. Whether it counted any.
+/// Visits the nodes from the last to the first, and counts the routes where it can. Returns whether it counted any.
 fn settle_all(rows: &Rows<u32>, counts: &mut [Count]) -> bool
     requires as_many { length counts.old ≡ length rows.now }
     requires within { All (λ row. All (λ to. to < length rows.now) row) rows.now }

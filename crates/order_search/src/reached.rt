@@ -13,8 +13,8 @@ use crate::rows::Rows;
 use std::alloc::{AllocError, Global};
 use std::marker::Model;
 
-/// The nodes that a search has reached, in the order in which it first reached them; to which nodes the edges of each lead; how
-/// many edges there are; how many nodes no edge leaves; and how many routes lead to these.
+/// The nodes that a search has reached, in the order in which it first reached them; to which nodes the edges of each
+/// lead; the number of edges; the number of nodes without outgoing edges; and the number of routes that lead to these.
 #[derive(Drop)]
 pub struct Reached {
     pub(crate) nodes: NodeList,
@@ -72,7 +72,7 @@ impl Reached {
         self.edges
     }
 
-    /// How many of them no edge leaves.
+    /// How many of them have no outgoing edge.
     pub fn ends(&self) -> u32
         ensures { result ≡ self.now.ends }
     {

@@ -1,4 +1,4 @@
-//! Lists, one behind the other in memory.
+//! Lists, stored one after another in memory.
 
 ghost use Rattle.std.specs.Prelude.{◌≡◌, ◌<◌, ◌≤◌, [], ◌∷◌, ◌++◌, length, OnErr, OnOk};
 ghost use Rattle.std.specs.List.{slice_range};
@@ -7,7 +7,7 @@ ghost use Rattle.order_search.specs.Rows.{numbered_row, piece_start as begins_at
 use std::alloc::{AllocError, Global};
 use std::marker::Model;
 
-/// Lists, one behind the other in memory. Contracts see the list of these lists.
+/// Lists, stored one after another in memory. Contracts see the list of these lists.
 #[derive(Drop)]
 pub(crate) struct Rows<T: Copy + Drop> {
     values: Vec<T>,

@@ -18,8 +18,8 @@ pub(crate) struct Entered<L> {
     pub(crate) label: L,
 }
 
-/// The nodes that were reached, how each but the first was, and for those that were gone through the numbers of the nodes to
-/// which their edges lead.
+/// The nodes that were reached, how each except the first was, and for those that were visited the numbers of the nodes
+/// to which their edges lead.
 #[derive(Drop)]
 pub(crate) struct Trail<L> {
     pub(crate) nodes: NodeList,
@@ -27,7 +27,7 @@ pub(crate) struct Trail<L> {
     pub(crate) rows: Rows<u32>,
 }
 
-/// What came of going through an edge.
+/// The result of visiting an edge.
 #[derive(Drop)]
 pub(crate) enum Passed<F> {
     /// It has this fault.
@@ -38,7 +38,7 @@ pub(crate) enum Passed<F> {
 }
 
 impl<L: Copy + Drop> Trail<L> {
-    /// The first node alone.
+    /// Only the first node.
     pub(crate) fn new(alloc: Global, first: Vec<u8>) -> Result<Trail<L>, AllocError>
         ensures nodes { IfOk result (λ trail. trail.nodes ≡ first.items ∷ []) }
         ensures entered { IfOk result (λ trail. trail.entered.items ≡ []) }
@@ -84,7 +84,7 @@ impl<L: Copy + Drop> Trail<L> {
     }
 }
 
-/// Goes through an edge of the node with the number `at`, and returns its fault, or the number of the node that it leads to.
+/// Visits an edge of the node with the number `at`, and returns its fault, or the number of the node that it leads to.
 #[tactic(auto, unfolding(crate::specs::Exploring::GoesAlong))]
 pub(crate) fn pass<G: Graph>(
     alloc: Global,

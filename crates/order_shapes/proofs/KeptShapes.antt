@@ -65,13 +65,13 @@ stage_in cells (suc i) c h e = subst HoldsEncodable (get_or_from_slice_get cells
 rider_in : (c : Cell) (p : Passenger) → HoldsEncodable c → c.passenger ≡ Some p → IsEncodable p
 rider_in c p h e = subst (λ (o : Option Passenger). IfSome o IsEncodable) e h
 
--- what a choice leads to has the shape where both ways have it
+-- the state that a choice leads to has the shape if it has it in both cases
 chosen : {A : Type 0} (plan : Plan) (o : Option A) (d : State) (f : A → State) → IsShaped plan d → ((a : A) → o ≡ Some a → IsShaped plan (f a)) →
     IsShaped plan (on o d f)
 chosen plan None d f h k = h
 chosen plan (Some a) d f h k = k a refl
 
--- an instruction that leaves changes the registers, the count and the ending alone
+-- an instruction that leaves changes only the registers, the count and the ending
 either : (plan : Plan) (b : Bool) (s t : State) → IsShaped plan s → IsShaped plan t → IsShaped plan (if b then s else t)
 either plan true s t h k = h
 either plan false s t h k = k
@@ -80,7 +80,7 @@ leaving : (plan : Plan) (t : State) (p : Passenger) → IsShaped plan t → IsSh
 leaving plan t p h = either plan p.dead t (left_live t p) h (chosen plan p.ending _ _ h (λ e is. h))
 
 module _ (plan : Plan) (s : State) (h : IsShaped plan s) where
-  -- on a stage, and on a stage and its instruction
+  -- for a stage, and for a stage and its instruction
   at_stage : (i : ℕ) (f : Cell → State) → ((c : Cell) → HoldsEncodable c → IsShaped plan (f c)) → IsShaped plan (on (cell_at s.cells i) s f)
   at_stage i f k = chosen plan (cell_at s.cells i) s f h (λ c there. k c (stage_in s.cells i c h.riders there))
 
@@ -175,7 +175,7 @@ module _ (plan : Plan) (s : State) (h : IsShaped plan s) where
   unfolding moved
   exit_shaped = at_stage 1 (exited plan s) (λ c holds. chosen plan c.packet s _ h (λ k lies. stage_put 1 (without_packet c) holds))
 
--- the same of a moment
+-- the same for a moment
 chosen_moment : {A : Type 0} (plan : Plan) (o : Option A) (d : Moment) (f : A → Moment) → IsShaped plan d.state →
     ((a : A) → o ≡ Some a → IsShaped plan (f a).state) → IsShaped plan (on o d f).state
 chosen_moment plan None d f h k = h

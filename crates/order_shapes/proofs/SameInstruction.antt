@@ -1,4 +1,4 @@
--- No move exchanges the decoded instruction of one that is on its way; a new one is what was fetched.
+-- No move replaces the decoded instruction of one that is on its way; a new one is what was fetched.
 use Rattle.std.proofs.Common.{◌≡◌, ℕ, ◌%◌, Option, Some, None, Bool, true, false, Result, Ok, Err, refl, sym, subst, ◌∙◌}
 use Rattle.std.specs.Prelude.{if◌then◌else◌, IfSome, ◌==◌, ◌&&◌, ◌||◌}
 use Rattle.mem_regions.specs.Memory.{Memory}
@@ -72,7 +72,7 @@ leaving_same away p = either (rule_holds away LeaveNotDone || p.done) p (record 
 pub still_encodable : (p q : Passenger) → q.what ≡ p.what → IsEncodable p → IsEncodable q
 still_encodable p q same h = subst (λ (o : Option Instr). IfSome o (λ i. Fits i)) (sym same) h
 
--- what was fetched can be
+-- what was fetched can be encoded
 choice : {A : Type 0} (P : A → Type 0) (b : Bool) (x y : A) → P x → P y → P (if b then x else y)
 choice P true x y f g = f
 choice P false x y f g = g

@@ -1,4 +1,4 @@
--- The shape of a state: as many stages, sidings and cells as the layout has; and its instructions can be encoded.
+-- The shape of a state: as many stages, sidings and cells as in the layout, and all its instructions can be encoded.
 use Rattle.std.specs.Prelude.{◌≡◌, List, All, length, map, Option, IfSome}
 use Rattle.rv_inst.specs.Ranges.{Fits}
 use Rattle.rv_machine.specs.Machine.{Machine}
@@ -17,7 +17,7 @@ use Rattle.order_claims.specs.MoveLists.{moment_after_without}
 abbrev pub IsEncodable : Passenger → Type 0
 IsEncodable p = IfSome p.what (λ i. Fits i)
 
--- so it is of the instruction in a stage, if there is one
+-- the same for the instruction in a stage, if there is one
 abbrev pub HoldsEncodable : Cell → Type 0
 HoldsEncodable c = IfSome c.passenger IsEncodable
 
@@ -27,7 +27,7 @@ pub record AreShaped (plan : Plan) (cells : List Cell) (sidings : List (List (Op
   pub as_long : map length sidings ≡ map (λ siding. siding.cells) plan.sidings
   pub riders : All HoldsEncodable cells
 
--- so do those of the state
+-- the same for those of the state
 abbrev pub IsShaped : Plan → State → Type 0
 IsShaped plan s = AreShaped plan s.cells s.sidings
 

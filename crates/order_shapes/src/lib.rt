@@ -1,4 +1,5 @@
-//! What each state is like to which lists of moves lead: it has the shape of the layout, and its instructions can be encoded.
+//! What holds for each state to which lists of moves lead: it has the shape of the layout, and its instructions can be
+//! encoded.
 #![tactic(auto)]
 
 pub mod laws;

@@ -50,7 +50,7 @@ lines-split plan s f a n m =
     ∙ (ap (move_lines plan s) (map-both f (counted_from a n) (counted_from (a + n) m))
     ∙ lines-append plan s (map f (counted_from a n)) (map f (counted_from (a + n) m)))
 
--- with the line of the next number there is one more
+-- with the line of the next number these are the lines of one more
 pub line-next : (plan : Plan) (s : State) (f : ℕ → Move) (a i n m : ℕ) → i ≡ a + n → m ≡ n + 1 →
     lines_from plan s f a n ++ line_in plan s (f i) ≡ lines_from plan s f a m
 line-next plan s f a i n m e k =
@@ -99,7 +99,7 @@ siding-next k (siding ∷ sidings) (suc i) h =
     ∙ sym (append_assoc (cell_moves k siding.cells) (siding_moves (suc k) (take i sidings))
     (cell_moves (suc k + i) (unwrap_or (slice_get sidings i) no_siding).cells)))
 
--- with the lines of the next siding there are those of one more
+-- with the lines of the next siding these are the lines of one more
 pub sidings-next : (plan : Plan) (s : State) (i : ℕ) → i < length plan.sidings →
     move_lines plan s (siding_moves 0 (take i plan.sidings)) ++ move_lines plan s (cell_moves i (cells_of plan i))
     ≡ move_lines plan s (siding_moves 0 (take (i + 1) plan.sidings))

@@ -22,7 +22,7 @@ bad_line refusal = line (place_in_script (codes "bad script line ") refusal.line
 unfoldable pub barred_line : ℕ → Bar → List ℕ
 barred_line number bar = line (place_in_script (codes "barred at line ") number ++ bar_text bar)
 
--- how a run finished, under this limit; no line where the report failed
+-- how a run finished, under this limit; no line if the report failed
 unfoldable pub line_of_run : ℕ → Answer → List ℕ
 line_of_run limit (ran.Exit status) = counted_line (codes "exit ") status
 line_of_run limit (ran.Trap cause pc detail) = trap_line cause pc detail

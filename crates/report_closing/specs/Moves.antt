@@ -16,7 +16,7 @@ use Rattle.report_refusals.specs.Bars.{bar_text}
 abbrev pub cell_moves : ℕ → ℕ → List Move
 cell_moves siding cells = map (Slide siding) (counted_from 0 cells)
 
--- those of the sidings from number k on
+-- the moves of the sidings from number k on
 abbrev pub siding_moves : ℕ → List SidingPlan → List Move
 siding_moves k [] = []
 siding_moves k (siding ∷ sidings) = cell_moves k siding.cells ++ siding_moves (suc k) sidings

@@ -73,7 +73,7 @@ fn push_ran(page: &mut Page, limit: u64, answer: Ran)
     }
 }
 
-/// The line that says how a run finished, whatever its schedule: the first of its report. It is empty where the report
+/// The line that says how a run finished, whatever its schedule: the first of its report. It is empty if the report
 /// failed.
 pub fn run_line(limit: u64, answer: Ran) -> Page
     ensures line { result ≡ line_of_run limit answer }

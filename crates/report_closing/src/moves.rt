@@ -86,7 +86,7 @@ fn put_cells<R: Sink>(core: &Core, siding: u32, cells: u32, report: &mut R) -> R
     Ok(())
 }
 
-/// Writes those of all sidings, ascending.
+/// Writes the lines of all sidings, ascending.
 fn put_slides<R: Sink>(core: &Core, report: &mut R) -> Result<(), Failed>
     ensures { PutsText (R.written report.old) (R.written report.new)
         (R.faults report.old) (R.faults report.new)

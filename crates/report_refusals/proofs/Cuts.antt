@@ -1,4 +1,4 @@
--- Where a text is cut, and how long the word of a class is.
+-- Where a text is cut, and how long the name of a class is.
 use Rattle.std.proofs.Common.{◌≡◌, ℕ, zero, suc, ◌<◌, ◌≤◌, List, Bool, true, false, cond, length, take, refl, subst, arith, ◌⊎◌, inl, inr}
 use Rattle.std.specs.Prelude.{nat_le, nat_lt, slice_index}
 use Rattle.std.specs.Str.{IsCharBoundary}
@@ -12,14 +12,14 @@ use Rattle.rv_inst.specs.declared.classes.Class.TheVariants.{Add, Logic, Shift, 
 use Rattle.layout_file.specs.Names.{class_name}
 use Rattle.report_refusals.specs.Variants.{cut}
 
--- of two numbers the first is below the second, or not
+-- the first of two numbers is below the second, or it is not
 order : (m n : ℕ) → (m < n) ⊎ (n ≤ m)
 order m n = elim (cases_Bool (nat_lt m n)) [
   | inl less ↦ inl (grind (arith, nat_tests))
   | inr more ↦ inr (grind (arith, nat_tests))
 ]
 
--- the index is the last up to i at which a character begins or the text ends
+-- the index is the last one up to i at which a character begins or the text ends
 abbrev IsLast : List ℕ → ℕ → ℕ → Type 0
 IsLast text i place = (place ≤ i) × IsCharBoundary text place × ((j : ℕ) → place < j → j ≤ i → ¬ (IsCharBoundary text j))
 
@@ -30,7 +30,7 @@ starts b e high = grind (arith, nat_tests)
 continues : (b : ℕ) → is_char_start b ≡ false → ¬ (128 ≤ b → 192 ≤ b)
 continues b e h = let high : 128 ≤ b = grind (arith, nat_tests) in let top = h high in absurd (grind (arith, nat_tests))
 
--- the last index, by whether a character begins at the next byte
+-- the last index, depending on whether a character begins at the next byte
 floor_by : (text : List ℕ) (i place : ℕ) (start : Bool) → is_char_start (slice_index text (suc i)) ≡ start → suc i < length text → IsLast text (suc i) place →
     (IsLast text i place → floor_char_boundary text i ≡ place) → cond start (suc i) (floor_char_boundary text i) ≡ place
 floor_by text i place true e within last below =
@@ -50,7 +50,7 @@ floor_is text zero place within last = let low = last.0 in omega arith
 floor_is text (suc i) place within last = floor_by text i place (is_char_start (slice_index text (suc i))) refl within last
     (λ down. floor_is text i place (omega arith) down)
 
--- the text up to that index is the truncated text, by whether it is short
+-- the text up to that index is the truncated text, depending on whether it is short
 cut_by : (text : List ℕ) (place : ℕ) (short : Bool) → nat_le (length text) 40 ≡ short → IsLast text 40 place →
     take place text ≡ cond short text (take (floor_char_boundary text 40) text)
 cut_by text place true e last =

@@ -15,7 +15,7 @@ delay_refusal KindTwice = codes "KindTwice"
 delay_refusal BadDelay = codes "BadDelay"
 delay_refusal ExtraWords = codes "ExtraWords"
 
--- the line that gives none, by its number, and why
+-- the first line that gives no delay, by its number, and why
 unfoldable pub delay_line_refusal : DelayErr → List ℕ
 delay_line_refusal error = codes " line " ++ decimal error.line ++ codes ": " ++ delay_refusal error.kind
 

@@ -3,8 +3,8 @@
 use Rattle.std.specs.Prelude.{ℕ, List, [], ◌∷◌, ◌++◌, codes, length, take, nat_le, if◌then◌else◌}
 use Rattle.std.specs.Fmt.Cut.{floor_char_boundary}
 
--- a text of at most 40 bytes, or for a longer one its prefix, up to the last index within 40 bytes at which a character
--- ends
+-- a text of at most 40 bytes; a longer one is replaced by its prefix up to the last index within 40 bytes at which a
+-- character ends
 unfoldable pub cut : List ℕ → List ℕ
 cut text = if nat_le (length text) 40 then text else take (floor_char_boundary text 40) text
 

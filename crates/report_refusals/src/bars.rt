@@ -7,7 +7,7 @@ ghost use Rattle.report_refusals.specs.Bars.{bar_text, source_text};
 use cf_bind::Bar;
 use texts::Page;
 
-/// The name of a bar, with a space where the register of a source follows.
+/// The name of a bar, with a space if the register of a source follows.
 #[tactic(auto, unfolding(crate::specs::Bars::bar_text))]
 fn bar_name(bar: Bar) -> &'static [u8]
     ensures text { bar_text bar ≡ result.now ++ source_text bar }

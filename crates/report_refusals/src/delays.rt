@@ -34,7 +34,7 @@ fn push_error(page: &mut Page, error: DelayErr)
     push_kind(page, error.kind);
 }
 
-/// The report of a file that gives no delays: it is too long, or the first line that gives none, and why.
+/// The report of a file that gives no delays: it is too long, or the first line that gives no delay, and why.
 pub fn bad_delays(fault: DelaysFault) -> Page
     ensures { result ≡ report_of fault }
 {

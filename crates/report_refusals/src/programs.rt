@@ -74,8 +74,8 @@ fn push_program(page: &mut Page, error: ProgramErr)
     }
 }
 
-/// The report of a file that is not a program: one line with the name of the refusal and what it keeps, such as `bad
-/// program: Load Overlap 0 1`.
+/// The report of a file that is not a program: one line with the name of the refusal and what it keeps, such as
+/// `bad program: Load Overlap 0 1`.
 pub fn bad_program(error: ProgramErr) -> Page
     ensures { result ≡ report_of error }
 {

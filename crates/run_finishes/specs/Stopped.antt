@@ -1,4 +1,4 @@
--- Which stream stopped a run: an error where it failed the run.
+-- Which stream stopped a run: an error if it failed the run.
 use Rattle.std.specs.Prelude.{Option, Some, Result, Ok, Err}
 use Rattle.run_finishes.specs.declared.finish.Ran.{Ran as Answer}
 use Rattle.run_finishes.specs.declared.finish.Ran.TheVariants as ran

@@ -28,7 +28,7 @@ pub enum Ran {
 /// How the run of a script finishes.
 #[derive(Clone, Copy)]
 pub enum Scripted {
-    /// As any run may finish.
+    /// In one of the ways in which any run may finish.
     Ran(Ran),
 
     /// The script has no further move.

@@ -1,4 +1,4 @@
-//! How a run finishes, of the sequential machine or of the processor.
+//! How a run of the sequential machine or of the processor finishes.
 #![tactic(auto)]
 
 mod finish;

@@ -1,4 +1,4 @@
--- The gaps that are counted are those of the run.
+-- The gaps that are counted are the gaps of the run.
 use Rattle.std.proofs.Common.{◌≡◌, ◌∙◌, refl, ap, ℕ, zero, suc, ◌+◌, ◌-◌, ◌^◌, ◌<◌, List, [], ◌∷◌, map, Bool, true, false, cond, arith}
 use Rattle.std.specs.Prelude.{filter, not}
 use Rattle.cf_layout.specs.Layout.{Plan}
@@ -12,7 +12,7 @@ use Rattle.run_ledger.specs.Using.{uses_stage}
 use Rattle.run_ledger.specs.declared.gaps.StageGaps.{StageGaps}
 use Rattle.run_ledger.proofs.Numbered.{numbered_same}
 
--- those of a stage among those of all
+-- the gaps of a stage, taken from those of all stages
 at_from : (f : ℕ → StageGaps) (m n i : ℕ) → i < n → gaps_at (map f (counted_from m n)) i ≡ f (m + i)
 at_from f m zero i within = absurd (omega arith)
 at_from f m (suc n) zero within = ap f (omega arith)
@@ -21,12 +21,12 @@ at_from f m (suc n) (suc i) within = at_from f (suc m) n i (omega arith) ∙ ap 
 pub at_number : (f : ℕ → StageGaps) (n i : ℕ) → i < n → gaps_at (map f (counted_from 0 n)) i ≡ f i
 at_number f n i within = at_from f 0 n i within ∙ ap f (omega arith)
 
--- those of a stage after some moves
+-- the counted gaps of a stage, after some moves
 abbrev pub gaps_over : Plan → ℕ → List SeenMove → StageGaps → StageGaps
 gaps_over plan i [] g = g
 gaps_over plan i (m ∷ moves) g = gaps_over plan i moves (gaps_after plan m.done m.state i g)
 
--- and of all stages
+-- and those of all stages
 abbrev pub all_over : Plan → List SeenMove → List StageGaps → List StageGaps
 all_over plan [] all = all
 all_over plan (m ∷ moves) all = all_over plan moves (gaps_noted plan m.done m.state all)
@@ -41,7 +41,7 @@ over_each plan n (m ∷ moves) f =
     (λ i within. ap (gaps_after plan m.done m.state i) (at_number f n i within)))
     ∙ over_each plan n moves (λ i. gaps_after plan m.done m.state i (f i))
 
--- the last gap, and one before others
+-- the last gap, and a gap before others
 last_held : (b : Bool) (number begin end : ℕ) → number < 2 ^ 64 →
     plus_if b number (end - begin) ≡ plus number (gap_total (filter (λ g. g.is_held) (gap begin end b ∷ [])))
 last_held true number begin end small = omega arith
@@ -57,7 +57,7 @@ still_small : (b : Bool) (number more : ℕ) → number < 2 ^ 64 → plus_if b n
 still_small true number more small = omega arith
 still_small false number more small = small
 
--- so what is counted as waiting are the gaps in which something is held
+-- so the gaps that are counted as waiting are those in which something is held
 pub waiting-over : (plan : Plan) (i : ℕ) (moves : List SeenMove) (g : StageGaps) (end : ℕ) → g.waiting < 2 ^ 64 →
     (with_gap (gaps_over plan i moves g) end).waiting
     ≡ plus g.waiting (gap_total (filter (λ x. x.is_held) (gaps_from i g.until g.is_held (users plan i moves) end)))
@@ -80,7 +80,7 @@ waiting-over plan i (m ∷ moves) g end small =
         used ∙ first_held g.is_held g.waiting g.until (move_start m.done) (gaps_from i m.done.time (holds_any m.state i) (users plan i moves) end)
     by false used unused = unused
 
--- and what is counted as empty the others
+-- and those that are counted as empty are the others
 last_empty : (b : Bool) (number begin end : ℕ) → number < 2 ^ 64 →
     plus_if (not b) number (end - begin) ≡ plus number (gap_total (filter (λ g. not g.is_held) (gap begin end b ∷ [])))
 last_empty true number begin end small = omega (arith, small)

@@ -1,4 +1,4 @@
--- What one more move changes: times, sums of delays, and numbers of moves by kind.
+-- How one more move changes times, sums of delays, and numbers of moves by kind.
 use Rattle.std.proofs.Common.{◌≡◌, ◌≢◌, ◌∙◌, refl, ap, ℕ, suc, ◌+◌, ◌*◌, ◌^◌, ◌<◌, ◌≤◌, List, [], ◌∷◌, ◌++◌, length, Bool, true, false, cond, nat_eq, arith}
 use Rattle.std.specs.Prelude.{filter, slice_set, ◌==◌}
 use Rattle.std.proofs.lemmas.Bool.Decides.{nat_tests}
@@ -36,7 +36,7 @@ pub times_none : (plan : Plan) → moves_with_times plan [] ≡ []
 unfolding moves_with_times
 times_none plan = refl
 
--- there is one for each move
+-- there is one time for each move
 after_length : (plan : Plan) (earlier : List TimedMove) (moves : List DelayedMove) →
     length (times_after plan earlier moves) ≡ length earlier + length moves
 after_length plan earlier [] = omega arith
@@ -50,7 +50,7 @@ times_length plan moves = let r = after_length plan [] moves in omega (arith, r)
 abbrev pub AreShort : List DelayedMove → Type 0
 AreShort moves = AllByRecursion (λ d. d.delay ≤ 1000) moves
 
--- they are small
+-- a move finishes at most 1,000 ticks after the latest earlier one
 pub time_short : (plan : Plan) (earlier : List TimedMove) (d : DelayedMove) → d.delay ≤ 1000 → finish_after plan earlier d ≤ greatest_time earlier + 1000
 unfolding finish_after
 time_short plan earlier d h = let k = kept_time (λ done. shares plan d.mv done.mv) earlier in omega (arith, k, h)
@@ -87,7 +87,7 @@ busy_more test moves move =
     ∙ sum_more (filter (λ d. test d.mv) moves) (cond (test move.mv) (move ∷ []) [])
     ∙ ap (λ (n : ℕ). sum_of_delays (filter (λ d. test d.mv) moves) + n) (sum_if (test move.mv) move)
 
--- they are small too
+-- so the sums of delays are small too
 sum_few : (test : Move → Bool) (moves : List DelayedMove) → AreShort moves → sum_of_delays (filter (λ d. test d.mv) moves) ≤ 1000 * length moves
 unfolding sum_of_delays
 sum_few test [] h = omega arith
@@ -105,7 +105,7 @@ pub busy_few : (test : Move → Bool) (moves : List DelayedMove) → AreShort mo
 unfolding busy
 busy_few test moves h = sum_few test moves h
 
--- a number that counts grows as far as 64 bits go
+-- a number that counts grows within 64 bits
 pub grows : (counts : Bool) (number more : ℕ) → number + more < 2 ^ 64 → plus_if counts number more ≡ number + cond counts more 0
 grows true number more small = omega (arith, small)
 grows false number more small = omega arith

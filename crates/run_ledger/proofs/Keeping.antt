@@ -1,4 +1,4 @@
--- A ledger that has recorded the moves of a run knows what its time is made of.
+-- A ledger that has recorded the moves of a run knows what its time consists of.
 use Rattle.std.proofs.Common.{◌≡◌, ◌∙◌, refl, sym, ap, subst, ℕ, zero, suc, ◌+◌, ◌-◌, ◌*◌, ◌^◌, ◌<◌, ◌≤◌, List, [], ◌∷◌, ◌++◌, length, map}
 use Rattle.std.proofs.Common.{Bool, true, false, cond, nat_eq, arith, append-nil, append_assoc}
 use Rattle.std.specs.Prelude.{replicate, ◌&&◌}
@@ -59,7 +59,7 @@ map_twice : (marks : List ChainMark) (xs : List Site) → map (chain_mark_at mar
 map_twice marks [] = refl
 map_twice marks (x ∷ xs) = ap (λ (l : List ChainMark). chain_mark_at marks (place_number x) ∷ l) (map_twice marks xs)
 
--- the mark that a move follows is that of the latest that shares a site with it
+-- the mark that a move follows is that of the latest move that shares a site with it
 follows_latest : (plan : Plan) (moves : List DelayedMove) (l : Ledger) (move : DelayedMove) → Keeps plan moves l → AreKept plan move.mv →
     followed l move.mv ≡ latest_where plan (λ d. shares plan move.mv d.mv) (moves_with_times plan moves)
 unfolding followed shares
@@ -220,7 +220,8 @@ keeps-all plan front (move ∷ moves) l few short kept small h =
     short-last [] one few short = (short, tt)
     short-last (first ∷ front) one few short = (few.0, short-last front one few.1 short)
 
--- so it knows how long stages and sidings were in use, the kinds of the moves, a longest chain, and when the last move finished
+-- so it knows how long stages and sidings were in use, the kinds of the moves, a longest chain, and when the last move
+-- finished
 pub record KnowsSites (plan : Plan) (moves : List DelayedMove) (l : Ledger) : Type 0 where
   pub layout_is : l.layout ≡ plan
   pub stages_are : l.stages ≡ map (λ i. busy (uses_stage plan i) moves) (counted_from 0 33)

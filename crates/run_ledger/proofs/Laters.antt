@@ -8,7 +8,7 @@ use Rattle.run_ledger.specs.declared.mark.ChainMark.{ChainMark}
 pub later_none : (a : ChainMark) → later a no_chain_mark ≡ a
 later_none a = let e : is_later a no_chain_mark ≡ false = grind (arith, nat_tests) in rw e refl
 
--- a mark with a greater number and no earlier time is the later one
+-- a mark with a larger number and no earlier time is the later one
 pub later_new : (a b : ChainMark) → a.time ≤ b.time → a.number < b.number → later a b ≡ b
 later_new a b t n = let e : is_later a b ≡ true = grind (arith, nat_tests) in rw e refl
 
@@ -16,7 +16,7 @@ later_new a b t n = let e : is_later a b ≡ true = grind (arith, nat_tests) in 
 pub later_old : (a b : ChainMark) → b.time < a.time → later a b ≡ a
 later_old a b t = let e : is_later a b ≡ false = grind (arith, nat_tests) in rw e refl
 
--- its time is the greater one
+-- its time is the later of the two
 pub later_time : (a b : ChainMark) → (later a b).time ≡ max a.time b.time
 later_time a b = by (is_later a b) refl
   where
@@ -32,7 +32,7 @@ later_number a b most h g = by (is_later a b)
     by true = g
     by false = h
 
--- a new mark beside one of two, or beside both
+-- a new mark compared with one of two, or with both
 pub new_first : (p q m : ChainMark) → p.number < m.number → q.number < m.number → later (later p q) m ≡ later (later p m) q
 new_first p q m a b = by (is_later p q) (is_later p m) (is_later q m) refl refl refl
   where

@@ -20,7 +20,7 @@ mark_after plan done earlier = record {
   kinds = kind_counts (chain_to plan (leads_to plan done) earlier ++ untimed done ∷ []);
 }
 
--- or no mark, where it does not count
+-- or no mark, if it does not count
 abbrev pub mark_if : Plan → Bool → TimedMove → List TimedMove → ChainMark
 mark_if plan counts done earlier = cond counts (mark_after plan done earlier) no_chain_mark
 
@@ -29,7 +29,7 @@ abbrev pub latest_where : Plan → (TimedMove → Bool) → List TimedMove → C
 latest_where plan test [] = no_chain_mark
 latest_where plan test (done ∷ earlier) = later (latest_where plan test earlier) (mark_if plan (test done) done earlier)
 
--- and of the last that passes it
+-- and that of the last that passes it
 abbrev pub last_where : Plan → (TimedMove → Bool) → List TimedMove → ChainMark
 last_where plan test [] = no_chain_mark
 last_where plan test (done ∷ earlier) = cond (test done) (mark_after plan done earlier) (last_where plan test earlier)
@@ -49,7 +49,7 @@ latest_time plan test (done ∷ earlier) =
     let w = where_more test done earlier in
     omega (arith, r, t, i, w)
 
--- and its number
+-- and the number of the latest
 if_number : (plan : Plan) (b : Bool) (done : TimedMove) (earlier : List TimedMove) → (mark_if plan b done earlier).number ≤ length earlier + 1
 if_number plan true done earlier = omega arith
 if_number plan false done earlier = omega arith
@@ -76,7 +76,7 @@ pub latest_never : (plan : Plan) (moves : List TimedMove) → latest_where plan 
 latest_never plan [] = refl
 latest_never plan (done ∷ earlier) = let r = latest_never plan earlier in rw r (later_none no_chain_mark)
 
--- one test or another
+-- a test or another one
 pub latest_either : (plan : Plan) (p q : TimedMove → Bool) (moves : List TimedMove) →
     latest_where plan (λ d. p d || q d) moves ≡ later (latest_where plan p moves) (latest_where plan q moves)
 latest_either plan p q [] = sym (later_none no_chain_mark)
@@ -112,7 +112,7 @@ latest_either plan p q (done ∷ earlier) =
             ∙ ap (λ (x : ChainMark). later x (latest_where plan q earlier)) (sym (later_none (latest_where plan p earlier)))
             ∙ ap (later (later (latest_where plan p earlier) no_chain_mark)) (sym (later_none (latest_where plan q earlier)))
 
--- the tests of a list, one after the other
+-- the tests of a list, one after another
 pub latest_any : {X : Type 0} (plan : Plan) (p : TimedMove → Bool) (test : X → TimedMove → Bool) (xs : List X) (moves : List TimedMove) →
     latest_of (latest_where plan p moves) (map (λ x. latest_where plan (test x) moves) xs)
     ≡ latest_where plan (λ d. p d || list_any (λ x. test x d) xs) moves
@@ -131,7 +131,7 @@ latest_any {X} plan p test (x ∷ xs) moves =
     turned true b c = refl
     turned false b c = refl
 
--- the last that passes and finishes at a time, where none that passes finishes later
+-- the last that passes and finishes at a time, if none that passes finishes later
 at_time : (plan : Plan) (p : TimedMove → Bool) (moves : List TimedMove) (s : ℕ) → (latest_where plan p moves).time ≤ s →
     last_where plan (λ d. p d && nat_eq d.time s) moves ≡ cond (nat_eq (latest_where plan p moves).time s)
     (latest_where plan p moves) no_chain_mark
@@ -180,7 +180,7 @@ at_time plan p (done ∷ earlier) s h =
             let below : done.time < s = grind (arith, nat_tests, few) in
             r ∙ stays (nat_eq (latest_where plan p earlier).time s) refl below
 
--- so the latest is the last that passes and finishes last
+-- so the latest is the last of those that pass and finish latest
 pub latest_last : (plan : Plan) (p : TimedMove → Bool) (moves : List TimedMove) → last_where plan (λ d. p d
     && nat_eq d.time (latest_where plan p moves).time) moves ≡ latest_where plan p moves
 latest_last plan p moves =
@@ -200,7 +200,7 @@ last_kinds plan test (done ∷ earlier) = by (test done) (last_kinds plan test e
     by true r = refl
     by false r = r
 
--- tests that agree have one chain
+-- tests that agree have the same chain
 pub chain_same : (plan : Plan) (p q : TimedMove → Bool) (moves : List TimedMove) → ((d : TimedMove) → p d ≡ q d) →
     chain_to plan p moves ≡ chain_to plan q moves
 chain_same plan p q [] same = refl

@@ -1,4 +1,4 @@
--- The chain of a run that is followed from the last of the moves that finish last is a longest one.
+-- The chain of a run that is followed back from the last of the moves that finish latest is a longest one.
 use Rattle.std.proofs.Common.{◌≡◌, ◌∙◌, refl, sym, ap, subst, ℕ, ◌+◌, ◌-◌, List, [], ◌∷◌, ◌++◌, max, Bool, true, false, cond, nat_eq, arith}
 use Rattle.std.proofs.Common.{append-nil, append_assoc}
 use Rattle.std.specs.Prelude.{◌&&◌}
@@ -13,7 +13,7 @@ use Rattle.cf_timed.proofs.Greatest.{greatest_where, where_more, where_none}
 use Rattle.run_ledger.specs.Breakdowns.{chain_to, is_last, leads_to, longest_chain}
 use Rattle.run_ledger.specs.SeenMoves.{untimed}
 
--- the moves in the order of the run, of which the last comes first
+-- the moves in the order of the run; in the list the last comes first
 abbrev run_of : List TimedMove → List DelayedMove
 run_of [] = []
 run_of (done ∷ earlier) = run_of earlier ++ untimed done ∷ []
@@ -23,7 +23,7 @@ run-after plan earlier [] = sym (append-nil (run_of earlier))
 run-after plan earlier (mv ∷ moves) = run-after plan (done_after plan earlier mv ∷ earlier) moves
     ∙ append_assoc (run_of earlier) (mv ∷ []) moves
 
--- each has its time
+-- each move has its time
 abbrev AreTimed : Plan → List TimedMove → Type 0
 AreTimed plan [] = Unit {0}
 AreTimed plan (done ∷ earlier) = (done.time ≡ finish_after plan earlier (untimed done)) × AreTimed plan earlier
@@ -33,7 +33,7 @@ timed-after : (plan : Plan) (earlier : List TimedMove) (moves : List DelayedMove
 timed-after plan earlier [] h = h
 timed-after plan earlier (mv ∷ moves) h = timed-after plan (done_after plan earlier mv ∷ earlier) moves (refl, h)
 
--- a chain is some of the moves
+-- a chain consists of some of the moves
 part-of : (plan : Plan) (test : TimedMove → Bool) (done : List TimedMove) → ArePart (chain_to plan test done) (run_of done)
 part-of plan test [] = tt
 part-of plan test (d ∷ earlier) = by (test d) (part-of plan (leads_to plan d) earlier) (part-of plan test earlier)
@@ -44,7 +44,7 @@ part-of plan test (d ∷ earlier) = by (test d) (part-of plan (leads_to plan d) 
     by true h g = part_last (chain_to plan (leads_to plan d) earlier) (run_of earlier) (untimed d) h
     by false h g = part_more (chain_to plan test earlier) (run_of earlier) (untimed d) g
 
--- each move of it shares a site with the next one
+-- each move of the chain shares a site with the next one
 both-hold : (a b : Bool) → (a && b) ≡ true → a ≡ true
 both-hold true b e = refl
 both-hold false b e = e

@@ -1,4 +1,4 @@
--- Marks that are put at the sites that a move uses.
+-- Marks that are set at the sites that a move uses.
 use Rattle.std.proofs.Common.{◌≡◌, ◌∙◌, refl, sym, ap, ℕ, zero, suc, ◌+◌, ◌*◌, ◌<◌, List, [], ◌∷◌, drop, get_or, length, map, Bool, true}
 use Rattle.std.proofs.Common.{false, cond, nat_eq, arith}
 use Rattle.std.specs.Prelude.{slice_set, ◌&&◌, ◌||◌}
@@ -69,7 +69,7 @@ number_within Memory kept = omega arith
 number_within Code kept = omega arith
 number_within _ kept = absurd (search kept)
 
--- a mark that was put, and the others
+-- a mark that was set, and the others
 at_put : (marks : List ChainMark) (i j : ℕ) (mark : ChainMark) → i < length marks → chain_mark_at (slice_set marks i mark) j
     ≡ cond (nat_eq j i) mark (chain_mark_at marks j)
 at_put [] i j mark within = absurd (omega arith)
@@ -79,12 +79,12 @@ at_put (m ∷ marks) (suc i) zero mark within = let e : nat_eq 0 (suc i) ≡ fal
 at_put (m ∷ marks) (suc i) (suc j) mark within = let e : nat_eq (suc j) (suc i) ≡ nat_eq j i = grind (arith, nat_tests) in
     rw e (at_put marks i j mark (omega arith))
 
--- their number is unchanged
+-- the number of marks is unchanged
 pub put_size : (mark : ChainMark) (marks : List ChainMark) (places : List ℕ) → length (put_marks mark marks places) ≡ length marks
 put_size mark marks [] = refl
 put_size mark marks (place ∷ places) = put_size mark (slice_set marks place mark) places ∙ set_length marks place mark
 
--- the mark at a site, after one was put at some sites
+-- the mark at a site, after one was set at some sites
 pub marks_put : (mark : ChainMark) (marks : List ChainMark) (ys : List Site) (x : Site) → length marks ≡ 102 → AllByRecursion IsKept ys → IsKept x →
     chain_mark_at (put_marks mark marks (map place_number ys)) (place_number x) ≡ cond (among x ys) mark (chain_mark_at marks (place_number x))
 marks_put mark marks [] x room kept here = refl
@@ -101,14 +101,14 @@ marks_put mark marks (y ∷ ys) x room kept here =
     both false true = refl
     both false false = refl
 
--- what is put at the next of some sites
+-- what is set at the next of some sites
 pub put_next : (mark : ChainMark) (marks : List ChainMark) (places : List ℕ) (i : ℕ) → i < length places →
     put_marks mark (slice_set marks (get_or places i 0) mark) (drop (i + 1) places) ≡ put_marks mark marks (drop i places)
 put_next mark marks [] i within = absurd (omega arith)
 put_next mark marks (p ∷ places) zero within = refl
 put_next mark marks (p ∷ places) (suc i) within = let e : suc i + 1 ≡ suc (i + 1) = omega arith in rw e (put_next mark marks places i (omega arith))
 
--- and of the ledger nothing else
+-- and nothing else in the ledger changes
 pub others_next : (l now next : Ledger) (marks : List ChainMark) → now ≡ with_marks l now.marks → next ≡ with_marks now marks → next ≡ with_marks l next.marks
 others_next l now next marks before put =
     put ∙ ap (λ (k : Ledger). with_marks k marks) before ∙ ap (with_marks l) (sym (ap (λ (k : Ledger). k.marks) put))

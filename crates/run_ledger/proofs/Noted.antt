@@ -51,7 +51,7 @@ notes l made done = move_noted l (seen_move done made)
 abbrev pub silent : RunLedger → Made → TimedMove → List ℕ
 silent l made done = []
 
--- it records the moves that are made, each with its time and what it leaves
+-- it records the moves that are made, each with its time and the state that it leaves
 watched-all : (plan : Plan) (rule : DelayRule) (t : TimedTurn) (l : RunLedger) (trace : List Made) →
     watched notes plan rule t l trace ≡ moves_noted l (seen_from plan rule t trace)
 unfolding watched
@@ -109,7 +109,7 @@ empty-is plan moves i small = empty-over plan i moves no_gaps (time_of plan move
 gaps-each : (plan : Plan) (moves : List SeenMove) → all_over plan moves (replicate 33 no_gaps) ≡ map (λ i. gaps_over plan i moves no_gaps) (counted_from 0 33)
 gaps-each plan moves = over_each plan 33 moves (λ i. no_gaps)
 
--- those of each
+-- the gaps of each stage
 each-until : (field : StageGaps → ℕ) (plan : Plan) (moves : List SeenMove) (f : ℕ → ℕ) →
     ((i : ℕ) → field (with_gap (gaps_over plan i moves no_gaps) (time_of plan moves)) ≡ f i) →
     map (λ i. field (with_gap (gaps_at (all_over plan moves (replicate 33 no_gaps)) i) (time_of plan moves)))
@@ -155,7 +155,7 @@ latency-each plan moves few small =
     let b = latency-short plan [] moves place few in
     omega (arith, a, b, small))
 
--- no move finishes later than all delays together
+-- no move finishes later than the sum of all delays
 seen-short : (plan : Plan) (rule : DelayRule) (t : TimedTurn) (trace : List Made) → AreShort (untimed_all (seen_from plan rule t trace)) →
     greatest_time t.earlier + 1000 * length (seen_from plan rule t trace) < 2 ^ 64 → AllByRecursion (λ m. m.done.time < 2 ^ 64) (seen_from plan rule t trace)
 seen-short plan rule t [] short few = tt
@@ -166,7 +166,7 @@ seen-short plan rule t (made ∷ trace) short few =
     let a = all_time (done_after plan t.earlier d) t.earlier in
     (omega (arith, s, f), seen-short plan rule (after_turn plan rule t made) trace short.1 (omega (arith, s, a, f)))
 
--- the same of moves with and without their times
+-- the same for moves with and without their times
 kept-seen : (plan : Plan) (moves : List SeenMove) → AllByRecursion (λ d. AreKept plan d.mv) (untimed_all moves) →
     AllByRecursion (λ m. AreKept plan m.done.mv) moves
 kept-seen plan [] kept = tt
@@ -180,7 +180,7 @@ none-done : greatest_time [] ≡ 0
 unfolding greatest_time
 none-done = refl
 
--- the parts of a ledger that begins
+-- the parts of a new ledger
 sites-begun : (plan : Plan) (moves : List SeenMove) → (moves_noted (begun plan) moves).sites ≡ noted_all (new_ledger plan) (untimed_all moves)
 unfolding begun
 sites-begun plan moves = sites-noted (begun plan) moves
@@ -193,7 +193,7 @@ latencies-begun : (plan : Plan) (moves : List SeenMove) → (moves_noted (begun 
 unfolding begun
 latencies-begun plan moves = latencies-noted plan (begun plan) moves (layout-begun plan)
 
--- they make up its breakdown
+-- they make up the ledger's breakdown
 told-parts : (plan : Plan) (moves : List SeenMove) (l : RunLedger) → KnowsSites plan (untimed_all moves) l.sites →
     waiting_until l.sites.last.time l.gaps ≡ map (waiting plan moves) (counted_from 0 33) →
     empty_until l.sites.last.time l.gaps ≡ map (empty_time plan moves) (counted_from 0 33) →
@@ -208,7 +208,7 @@ told-parts plan moves l k waits empties counts sums =
     let e = k.chain_is in
     rw (a, b, c, d, e, waits, empties, counts, sums) refl
 
--- so it knows what their time is made of
+-- so it knows what their time consists of
 told-seen : (plan : Plan) (rule : DelayRule) (s : State) (trace : List Made) → plan.stages < 34 → AreShort (untimed_all (seen_in plan rule s trace)) →
     AllByRecursion (λ d. AreKept plan d.mv) (untimed_all (seen_in plan rule s trace)) → 1000 * length (untimed_all (seen_in plan rule s trace)) < 2 ^ 64 →
     breakdown_in (moves_noted (begun plan) (seen_in plan rule s trace)) ≡ breakdown plan (seen_in plan rule s trace)

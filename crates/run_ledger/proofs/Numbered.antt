@@ -1,4 +1,4 @@
--- Lists of what a function gives for the numbers from 0 on, of which one is replaced or all grow.
+-- Lists of the values of a function for the numbers from 0 on, of which one is replaced or all grow.
 use Rattle.std.proofs.Common.{◌≡◌, ◌≢◌, ◌∙◌, refl, ap, ℕ, zero, suc, ◌+◌, ◌<◌, ◌≤◌, List, length, map, Bool, arith}
 use Rattle.std.specs.Prelude.{slice_set}
 use Rattle.cf_semantics.specs.moves.Candidates.{counted_from}
@@ -17,7 +17,7 @@ same_from f g m (suc n) same =
 pub numbered_same : {X : Type 0} (f g : ℕ → X) (n : ℕ) → ((i : ℕ) → i < n → f i ≡ g i) → map f (counted_from 0 n) ≡ map g (counted_from 0 n)
 numbered_same f g n same = same_from f g 0 n (λ i low high. same i (omega arith))
 
--- one of them is replaced
+-- one of the values is replaced
 set_from : (f g : ℕ → ℕ) (m n i v : ℕ) → i < n → v ≡ g (m + i) → ((j : ℕ) → j ≢ m + i → f j ≡ g j) →
     slice_set (map f (counted_from m n)) i v ≡ map g (counted_from m n)
 set_from f g m zero i v within is same = absurd (omega arith)
@@ -34,7 +34,7 @@ pub numbered_set : (f g : ℕ → ℕ) (n i v : ℕ) → i < n → v ≡ g i →
     slice_set (map f (counted_from 0 n)) i v ≡ map g (counted_from 0 n)
 numbered_set f g n i v within is same = set_from f g 0 n i v within (is ∙ ap g (omega arith)) (λ j other. same j (omega (arith, other)))
 
--- those that count grow
+-- the values that count grow
 pub charged_numbered : (counts : ℕ → Bool) (more : ℕ) (f g : ℕ → ℕ) (n : ℕ) (numbers : List ℕ) → numbers ≡ map f (counted_from 0 n) →
     ((i : ℕ) → i < n → plus_if (counts i) (f i) more ≡ g i) → charged counts more numbers ≡ map g (counted_from 0 n)
 charged_numbered counts more f g n numbers is grows =

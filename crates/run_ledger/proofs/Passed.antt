@@ -21,7 +21,7 @@ use Rattle.run_ledger.specs.SeenMoves.{SeenMove, move_start}
 use Rattle.run_ledger.specs.declared.latencies.Latencies.{Latencies}
 use Rattle.run_ledger.proofs.Numbered.{numbered_same, numbered_set}
 
--- a number that was put among some, and the others
+-- a number that was set among several, and the others
 number_put : (numbers : List ℕ) (i j v : ℕ) → j < length numbers → number_at (slice_set numbers j v) i ≡ cond (nat_eq i j) v (number_at numbers i)
 number_put [] i j v within = absurd (omega arith)
 number_put (n ∷ numbers) zero zero v within = refl
@@ -30,7 +30,7 @@ number_put (n ∷ numbers) (suc i) zero v within = let e : nat_eq (suc i) 0 ≡ 
 number_put (n ∷ numbers) (suc i) (suc j) v within = let e : nat_eq (suc i) (suc j) ≡ nat_eq i j = grind (arith, nat_tests) in
     rw e (number_put numbers i j v (omega arith))
 
--- the starts of the Issue of what is in each stage
+-- when the Issue of the instruction in each stage started
 pub record HasIssues (earlier : List TimedMove) (starts : List ℕ) : Type 0 where
   pub room : length starts ≡ 34
   pub each : (i : ℕ) → i < 34 → number_at starts i ≡ issue_started earlier i
@@ -80,13 +80,13 @@ no-issues zero i = refl
 no-issues (suc n) zero = refl
 no-issues (suc n) (suc i) = no-issues n i
 
--- numbers by the places of classes, with an amount of each passage added, and capped
+-- numbers by the places of classes, each with the amount of each passage added, and capped
 abbrev pub raised : ℕ → (Passage → ℕ) → List ℕ → List Passage → List ℕ
 raised cap amount numbers [] = numbers
 raised cap amount numbers (p ∷ some) =
     raised cap amount (slice_set numbers (place_of p.class) (min (number_at numbers (place_of p.class) + amount p) cap)) some
 
--- the amounts of some passages together
+-- the sum of the amounts of some passages
 abbrev pub total_of : (Passage → ℕ) → List Passage → ℕ
 total_of amount [] = 0
 total_of amount (p ∷ some) = amount p + total_of amount some
@@ -124,7 +124,7 @@ raised-one cap amount f p =
     others : (j : ℕ) → j ≢ place_of p.class → f j ≡ cond (nat_eq (place_of p.class) j) (min (f j + amount p) cap) (f j)
     others j other = let e : nat_eq (place_of p.class) j ≡ false = grind (arith, nat_tests) in rw e refl
 
--- each number has grown by what the passages of its class amount to
+-- each number has grown by the sum of the amounts of the passages of its class
 pub raised-each : (cap : ℕ) (amount : Passage → ℕ) (f : ℕ → ℕ) (some : List Passage) → ((place : ℕ) → f place ≤ cap) →
     raised cap amount (map f (counted_from 0 11)) some ≡ map (λ place. min (f place + total_of amount (of_class place some)) cap) (counted_from 0 11)
 raised-each cap amount f [] small = numbered_same f (λ place. min (f place + 0) cap) 11 (λ i within. let s = small i in omega (arith, s))
@@ -143,12 +143,12 @@ raised-each cap amount f (p ∷ some) small =
     by_sum place true = omega arith
     by_sum place false = refl
 
--- one for each
+-- with an amount of one for each passage
 pub total_one : (some : List Passage) → total_of (λ p. 1) some ≡ length some
 total_one [] = refl
 total_one (p ∷ some) = let r = total_one some in omega (arith, r)
 
--- or the ticks of each
+-- or with the ticks of each
 pub total_same : (some : List Passage) → total_of (λ p. p.ticks) some ≡ total_ticks some
 total_same [] = refl
 total_same (p ∷ some) = ap (λ (n : ℕ). p.ticks + n) (total_same some)
@@ -158,7 +158,7 @@ abbrev pub latencies_over : Plan → List SeenMove → Latencies → Latencies
 latencies_over plan [] l = l
 latencies_over plan (m ∷ moves) l = latencies_over plan moves (latencies_noted plan m.done m.event l)
 
--- have grown by the instructions that retire with them
+-- they have grown by the instructions that retire with these moves
 pub record Grown (plan : Plan) (earlier : List TimedMove) (moves : List SeenMove) (before after : Latencies) : Type 0 where
   pub retired : after.retired ≡ raised (2 ^ 64 - 1) (λ p. 1) before.retired (passages_after plan earlier moves)
   pub ticks : after.ticks ≡ raised (2 ^ 128 - 1) (λ p. p.ticks) before.ticks (passages_after plan earlier moves)
@@ -169,7 +169,7 @@ raised-more cap amount numbers [] back = refl
 raised-more cap amount numbers (p ∷ front) back =
     raised-more cap amount (slice_set numbers (place_of p.class) (min (number_at numbers (place_of p.class) + amount p) cap)) front back
 
--- with one move
+-- with one more move
 grown-one : (plan : Plan) (earlier : List TimedMove) (m : SeenMove) (l : Latencies) → plan.stages < 34 → HasIssues earlier l.issued →
     ((latencies_noted plan m.done m.event l).retired ≡ raised (2 ^ 64 - 1) (λ p. 1) l.retired (passage_of plan earlier m))
     × ((latencies_noted plan m.done m.event l).ticks ≡ raised (2 ^ 128 - 1) (λ p. p.ticks) l.ticks (passage_of plan earlier m))
@@ -196,7 +196,7 @@ issued-noted plan m l = by (class_retired m.event)
     by None = refl
     by (Some c) = refl
 
--- and with all
+-- and with all moves
 pub grown-all : (plan : Plan) (earlier : List TimedMove) (moves : List SeenMove) (l : Latencies) → plan.stages < 34 → HasIssues earlier l.issued →
     AllByRecursion (λ m. AreKept plan m.done.mv) moves → Grown plan earlier moves l (latencies_over plan moves l)
 grown-all plan earlier [] l low h kept = record { retired = refl; ticks = refl }

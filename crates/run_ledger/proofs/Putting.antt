@@ -7,7 +7,7 @@ use Rattle.run_ledger.specs.Ledgers.{charged, later, mark_of, ledger_noted, one_
 use Rattle.run_ledger.specs.declared.ledger.Ledger.{Ledger}
 use Rattle.run_ledger.specs.declared.mark.ChainMark.{ChainMark}
 
--- what each part is of the ledger in which the mark was put
+-- what each part is, for a ledger in which the mark was set
 part-of : (l : Ledger) (mv : Move) (ticks : ℕ) (mark last : ChainMark) (count : ℕ) (places stages sidings kinds : List ℕ) →
     places ≡ place_numbers l.layout mv → mark ≡ mark_of l (delayed mv ticks)
     → last ≡ later l.last mark → count ≡ plus l.count 1 → stages ≡ charged (λ i. uses_stage l.layout i mv) ticks l.stages →

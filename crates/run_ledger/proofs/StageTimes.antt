@@ -28,7 +28,7 @@ starts_late plan earlier d i e =
     let n : last_at plan earlier (Stage i) ≤ greatest_time (before plan d.mv earlier) + 0 = no_later plan earlier (delayed d.mv 0) (Stage i) e in
     omega (arith, n)
 
--- the last to use it is then that move, or the same as before
+-- the last move that uses it is then that move, or the same as before
 last_more : (plan : Plan) (earlier : List TimedMove) (d : DelayedMove) (i : ℕ) (b : Bool) → uses_stage plan i d.mv ≡ b →
     last_at plan (done_after plan earlier d ∷ earlier) (Stage i) ≡ max (cond b (finish_after plan earlier d) 0) (last_at plan earlier (Stage i))
 last_more plan earlier d i b e =
@@ -60,7 +60,7 @@ rest_seen plan rule t made trace = seen_from plan rule (after_turn plan rule t m
 abbrev in_use : Plan → ℕ → List SeenMove → List DelayedMove
 in_use plan i moves = filter (λ d. uses_stage plan i d.mv) (untimed_all moves)
 
--- the moves that use it, and the gaps between them, are all of the time from the first gap on
+-- the moves that use it, and the gaps between them, make up the whole time from the first gap on
 spans : (plan : Plan) (rule : DelayRule) (i : ℕ) (t : TimedTurn) (trace : List Made) (begin end : ℕ) (held : Bool) →
     begin ≡ last_at plan t.earlier (Stage i) → greatest_time (times_after plan t.earlier (untimed_all (seen_from plan rule t trace))) ≤ end →
     sum_of_delays (in_use plan i (seen_from plan rule t trace)) + gap_total (gaps_from i begin held (users plan i (seen_from plan rule t trace)) end) + begin
@@ -98,7 +98,7 @@ spans plan rule i t (made ∷ trace) begin end held is late =
         added delay time last used left s r is = omega (arith, s, r, is)
     by false e used unused = unused e
 
--- a gap is one or the other
+-- a gap is of one of the two kinds
 two_kinds : (some : List Gap) → gap_total (filter (λ g. g.is_held) some) + gap_total (filter (λ g. not g.is_held) some) ≡ gap_total some
 two_kinds [] = refl
 two_kinds (g ∷ some) = by g.is_held (two_kinds some)

@@ -1,5 +1,5 @@
--- What the time of a run is made of: how long each stage is in use, waits and is empty; how long each siding is in use;
--- how many moves of each kind are made; how long instructions of each class take; and a longest chain.
+-- What the time of a run consists of: how long each stage is in use, waits and is empty; how long each siding is in
+-- use; how many moves of each kind are made; how long instructions of each class take; and a longest chain.
 use Rattle.std.specs.Prelude.{ℕ, ◌-◌, List, [], ◌∷◌, ◌++◌, length, map, filter, Bool, ◌==◌, ◌&&◌, if◌then◌else◌}
 use Rattle.cf_layout.specs.Layout.{Plan}
 use Rattle.cf_bind.specs.declared.moves.Move.{Move}
@@ -31,23 +31,23 @@ kind_counts moves = map (of_kind moves) (counted_from 0 14)
 abbrev pub leads_to : Plan → TimedMove → TimedMove → Bool
 leads_to plan later earlier = shares plan later.mv earlier.mv && (earlier.time == (later.time - later.delay))
 
--- of moves with their times, the last first: the chain that ends with the last move that passes the test; from each
--- move it follows the last earlier move that leads to it
+-- of moves with their times, the last first: the chain that ends with the last move that passes the test; before each
+-- move in it comes the last earlier move that leads to it
 abbrev pub chain_to : Plan → (TimedMove → Bool) → List TimedMove → List DelayedMove
 chain_to plan test [] = []
 chain_to plan test (done ∷ earlier) =
     if test done then chain_to plan (leads_to plan done) earlier ++ untimed done ∷ []
     else chain_to plan test earlier
 
--- it finishes last of the moves
+-- none of the moves finishes later
 abbrev pub is_last : List TimedMove → TimedMove → Bool
 is_last moves done = done.time == greatest_time moves
 
--- the chain of a run that ends with the last of the moves that finish last
+-- the chain of a run that ends with the last of the moves that finish latest
 unfoldable pub longest_chain : Plan → List DelayedMove → List DelayedMove
 longest_chain plan moves = chain_to plan (is_last (moves_with_times plan moves)) (moves_with_times plan moves)
 
--- what the time of a run is made of; stages and sidings are by their numbers, classes by their places
+-- what the time of a run consists of; stages and sidings are by their numbers, classes by their places
 unfoldable pub breakdown : Plan → List SeenMove → Breakdown
 breakdown plan moves = record {
   layout = plan;

@@ -17,7 +17,7 @@ use Rattle.run_ledger.specs.declared.latencies.Latencies.{Latencies}
 abbrev pub no_latencies : Latencies
 no_latencies = record { issued = replicate 34 0; retired = replicate 11 0; ticks = replicate 11 0 }
 
--- a sum, capped at the greatest number of 128 bits
+-- a sum, capped at the maximum number of 128 bits
 abbrev pub wide_plus : ℕ → ℕ → ℕ
 wide_plus a b = min (a + b) (2 ^ 128 - 1)
 
@@ -25,7 +25,7 @@ wide_plus a b = min (a + b) (2 ^ 128 - 1)
 abbrev pub one_retired : Class → List ℕ → List ℕ
 one_retired class counts = slice_set counts (place_of class) (plus (number_at counts (place_of class)) 1)
 
--- it took this long
+-- the instruction took this long
 abbrev pub ticks_added : Class → ℕ → List ℕ → List ℕ
 ticks_added class more ticks = slice_set ticks (place_of class) (wide_plus (number_at ticks (place_of class)) more)
 
@@ -37,7 +37,7 @@ passage_noted plan done l class = record {
   ticks = ticks_added class (done.time - number_at l.issued plan.stages) l.ticks;
 }
 
--- if one retires
+-- the same for the move's event, if an instruction retires with it
 abbrev pub leaving_noted : Plan → TimedMove → Event → Latencies → Latencies
 leaving_noted plan done e l = on (class_retired e) l (passage_noted plan done l)
 
@@ -47,10 +47,10 @@ issues_after done (Issue g) starts = slice_set starts 1 (move_start done)
 issues_after done (Climb j) starts = if nat_lt j 33 then slice_set starts (j + 1) (number_at starts j) else starts
 issues_after done mv starts = starts
 
--- the move has brought its instruction on
+-- the move has brought its instruction into another stage
 abbrev pub entered : TimedMove → Latencies → Latencies
 entered done l = record { issued = issues_after done done.mv l.issued; retired = l.retired; ticks = l.ticks }
 
--- all that a move changes
+-- everything that a move changes
 unfoldable pub latencies_noted : Plan → TimedMove → Event → Latencies → Latencies
 latencies_noted plan done e l = entered done (leaving_noted plan done e l)

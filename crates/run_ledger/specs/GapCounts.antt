@@ -14,7 +14,7 @@ use Rattle.run_ledger.specs.declared.gaps.StageGaps.{StageGaps}
 abbrev pub no_gaps : StageGaps
 no_gaps = record { until = 0; is_held = false; waiting = 0; empty = 0 }
 
--- those of a stage
+-- the counted gaps of a stage
 abbrev pub gaps_at : List StageGaps → ℕ → StageGaps
 gaps_at all i = unwrap_or (slice_get all i) no_gaps
 
@@ -27,7 +27,7 @@ with_gap g end = record {
   empty = plus_if (not g.is_held) g.empty (end - g.until);
 }
 
--- a move has used the stage, and left an instruction or a result in it, or none
+-- after a move has used the stage, and left an instruction or a result in it, or left it empty
 abbrev pub after_use : StageGaps → TimedMove → Bool → StageGaps
 after_use g done held = record {
   until = done.time;
@@ -44,7 +44,7 @@ gaps_after plan done s i g = if uses_stage plan i done.mv then after_use g done 
 abbrev pub gaps_noted : Plan → TimedMove → State → List StageGaps → List StageGaps
 gaps_noted plan done s all = map (λ i. gaps_after plan done s i (gaps_at all i)) (counted_from 0 (length all))
 
--- how long each waits and is empty up to an end
+-- how long each stage waits, and how long it is empty, up to an end
 abbrev pub waiting_until : ℕ → List StageGaps → List ℕ
 waiting_until end all = map (λ i. (with_gap (gaps_at all i) end).waiting) (counted_from 0 (length all))
 

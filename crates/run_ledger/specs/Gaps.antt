@@ -1,4 +1,4 @@
--- How long a stage waits and how long it is empty: the time of a run that the moves which use the stage leave.
+-- How long a stage waits and how long it is empty: the time of a run in which no move uses the stage.
 use Rattle.std.specs.Prelude.{ℕ, ◌+◌, ◌-◌, List, [], ◌∷◌, filter, Bool, false, not, ◌||◌}
 use Rattle.cf_layout.specs.Layout.{Plan}
 use Rattle.cf_semantics.specs.state.Options.{is_some, on}
@@ -6,7 +6,7 @@ use Rattle.cf_semantics.specs.state.State.{State, cell_at}
 use Rattle.run_ledger.specs.SeenMoves.{SeenMove, move_start, time_of}
 use Rattle.run_ledger.specs.Using.{uses_stage}
 
--- from one time to another no move uses the stage; whether an instruction or a result is in it meanwhile
+-- no move uses the stage from one time to another; and whether an instruction or a result is in it meanwhile
 pub record Gap : Type 0 where
   pub begin : ℕ
   pub end : ℕ
@@ -24,17 +24,17 @@ holds_any s i = on (cell_at s.cells i) false (λ c. is_some c.passenger || is_so
 abbrev pub users : Plan → ℕ → List SeenMove → List SeenMove
 users plan i moves = filter (λ m. uses_stage plan i m.done.mv) moves
 
--- the gaps before each of some moves that use the stage, and behind the last of them up to an end, the first of which
--- begins at a time; in each is what the move before it has left there
+-- the gap before each of some moves that use the stage, and the gap after the last of them up to an end; the first gap
+-- begins at a time. In each gap the stage holds what the move before it has left there
 abbrev pub gaps_from : ℕ → ℕ → Bool → List SeenMove → ℕ → List Gap
 gaps_from i begin held [] end = gap begin end held ∷ []
 gaps_from i begin held (m ∷ moves) end = gap begin (move_start m.done) held ∷ gaps_from i m.done.time (holds_any m.state i) moves end
 
--- those of a run, at the start of which the stage is empty
+-- the gaps of a run, at whose start the stage is empty
 unfoldable pub gaps : Plan → ℕ → List SeenMove → List Gap
 gaps plan i moves = gaps_from i 0 false (users plan i moves) (time_of plan moves)
 
--- how long some gaps are together
+-- the total length of some gaps
 abbrev pub gap_total : List Gap → ℕ
 gap_total [] = 0
 gap_total (g ∷ more) = g.end - g.begin + gap_total more

@@ -18,14 +18,14 @@ use Rattle.run_ledger.specs.SeenMoves.{SeenMove, move_start}
 abbrev pub classes : List Class
 classes = computed_classes ++ Serial ∷ Free ∷ []
 
--- what a move that starts at a time changes of when the instruction in each stage was issued: an Issue brings one into
+-- how a move that starts at a time changes when the instruction in each stage was issued: an Issue brings one into
 -- stage 1, and a Climb brings the one in its stage into the next stage
 abbrev pub brought : Move → ℕ → (ℕ → ℕ) → ℕ → ℕ
 brought (Issue g) start issued i = if i == 1 then start else issued i
 brought (Climb j) start issued i = if i == j + 1 then issued j else issued i
 brought mv start issued i = issued i
 
--- when the Issue of the instruction in a stage started, by the moves before, of which the last comes first
+-- when the Issue of the instruction in a stage started, by the earlier moves, of which the last comes first
 abbrev pub issue_started : List TimedMove → ℕ → ℕ
 issue_started [] i = 0
 issue_started (done ∷ earlier) i = brought done.mv (move_start done) (issue_started earlier) i
@@ -43,25 +43,25 @@ pub record Passage : Type 0 where
   pub class : Class
   pub ticks : ℕ
 
--- the one that retires with a move, which leaves the last stage, as a list
+-- the instruction that retires with a move, which leaves the last stage, as a list
 abbrev pub passage_of : Plan → List TimedMove → SeenMove → List Passage
 passage_of plan earlier m =
     on (class_retired m.event) [] (λ class. record { class = class; ticks = m.done.time - issue_started earlier plan.stages } ∷ [])
 
--- those that retire with the moves after others
+-- the passages that end with the moves after others
 abbrev pub passages_after : Plan → List TimedMove → List SeenMove → List Passage
 passages_after plan earlier [] = []
 passages_after plan earlier (m ∷ moves) = passage_of plan earlier m ++ passages_after plan (m.done ∷ earlier) moves
 
--- those of a run
+-- the passages of a run
 unfoldable pub passages : Plan → List SeenMove → List Passage
 passages plan moves = passages_after plan [] moves
 
--- those of the class at a place
+-- the passages of the class at a place
 abbrev pub of_class : ℕ → List Passage → List Passage
 of_class place some = filter (λ p. place_of p.class == place) some
 
--- how long some take together
+-- the total time that some take
 abbrev pub total_ticks : List Passage → ℕ
 total_ticks [] = 0
 total_ticks (p ∷ more) = p.ticks + total_ticks more
@@ -70,6 +70,6 @@ total_ticks (p ∷ more) = p.ticks + total_ticks more
 unfoldable pub retired_count : Plan → List SeenMove → ℕ → ℕ
 retired_count plan moves place = length (of_class place (passages plan moves))
 
--- and how long they take together
+-- and the total time that they take
 unfoldable pub latency : Plan → List SeenMove → ℕ → ℕ
 latency plan moves place = total_ticks (of_class place (passages plan moves))

@@ -12,7 +12,7 @@ use Rattle.run_ledger.specs.Using.{uses_siding, uses_stage}
 use Rattle.run_ledger.specs.declared.ledger.Ledger.{Ledger}
 use Rattle.run_ledger.specs.declared.mark.ChainMark.{ChainMark}
 
--- the number of a site among all that moves use
+-- the number of a site among all sites that moves use
 abbrev pub place_number : Site → ℕ
 place_number Lane = 0
 place_number Fetching = 1
@@ -30,7 +30,7 @@ no_chain_mark = record { time = 0; number = 0; kinds = replicate 14 0 }
 abbrev pub chain_mark_at : List ChainMark → ℕ → ChainMark
 chain_mark_at marks place = unwrap_or (slice_get marks place) no_chain_mark
 
--- the second mark is of a move that finishes later, or at the same time and has a greater number
+-- the second mark is of a move that finishes later, or at the same time with a larger number
 abbrev pub is_later : ChainMark → ChainMark → Bool
 is_later a b = nat_lt a.time b.time || (nat_eq a.time b.time && nat_lt a.number b.number)
 
@@ -43,11 +43,11 @@ abbrev pub latest_of : ChainMark → List ChainMark → ChainMark
 latest_of mark [] = mark
 latest_of mark (next ∷ marks) = latest_of (later mark next) marks
 
--- a sum, capped at the greatest number of 64 bits
+-- a sum, capped at the maximum number of 64 bits
 abbrev pub plus : ℕ → ℕ → ℕ
 plus a b = min (a + b) (2 ^ 64 - 1)
 
--- a number, with this much added where it counts
+-- a number, with this much added if it counts
 abbrev pub plus_if : Bool → ℕ → ℕ → ℕ
 plus_if counts number more = if counts then plus number more else number
 
@@ -59,7 +59,7 @@ charged counts more numbers = map (λ i. plus_if (counts i) (number_at numbers i
 abbrev pub one_more : List ℕ → Move → List ℕ
 one_more numbers mv = slice_set numbers (kind_place mv) (plus (number_at numbers (kind_place mv)) 1)
 
--- the mark is put at each of some sites
+-- the mark is set at each of some sites
 abbrev pub put_marks : ChainMark → List ChainMark → List ℕ → List ChainMark
 put_marks mark marks [] = marks
 put_marks mark marks (place ∷ places) = put_marks mark (slice_set marks place mark) places

@@ -13,7 +13,7 @@ use Rattle.run_ledger.specs.RunLedgers.{breakdown_in}
 use Rattle.run_ledger.specs.SeenMoves.{seen_in}
 use Rattle.run_ledger.specs.declared.run_ledger.RunLedger.{RunLedger}
 
--- it is a timed run, and the ledger knows what the time of its moves is made of
+-- it is a timed run, and the ledger knows what the time of its moves consists of
 pub record RunsNoted (r : GuessRule) (rule : DelayRule) (limit : ℕ) (begin : RunPlace) (core : Processor) (streams : Streams)
     (clock : SiteTimes) (ledger : RunLedger) (moves : ℕ) (answer : Timed) : Type 0 where
   pub timed : RunsTimed r rule limit begin core streams clock moves answer

@@ -1,4 +1,4 @@
--- How a ledger of a run is kept: the sites, the gaps of the stages, and the latencies of the instructions.
+-- How the ledger of a run is kept: the sites, the gaps of the stages, and the latencies of the instructions.
 use Rattle.std.specs.Prelude.{List, [], ◌∷◌, replicate}
 use Rattle.cf_layout.specs.Layout.{Plan}
 use Rattle.run_ledger.specs.ClassCounts.{latencies_noted, no_latencies}

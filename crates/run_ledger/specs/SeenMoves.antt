@@ -34,7 +34,7 @@ seen_in plan rule s trace = seen_from plan rule (timed_start s) trace
 abbrev pub untimed : TimedMove → DelayedMove
 untimed done = delayed done.mv done.delay
 
--- the moves alone, each with its delay
+-- the moves, each with its delay
 abbrev pub untimed_all : List SeenMove → List DelayedMove
 untimed_all moves = map (λ m. untimed m.done) moves
 

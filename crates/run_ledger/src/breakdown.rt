@@ -1,8 +1,9 @@
-//! What the time of a run is made of.
+//! What the time of a run consists of.
 
 use cf_layout::Layout;
 
-/// What the time of a run is made of. All times are in ticks. The time of each stage in use, waiting and empty adds up to
+/// What the time of a run consists of. All times are in ticks. The times of each stage in use, waiting and empty add up
+/// to the time of the run.
 /// the time of the run.
 #[derive(Clone, Copy)]
 pub struct Breakdown {
@@ -24,12 +25,13 @@ pub struct Breakdown {
     /// How many moves of each kind were made, in the order of `Move`.
     pub moves: [u64; 14],
 
-    /// How many instructions of each class retired: those that are computed in the order of layout files, then serial, free.
+    /// How many instructions of each class retired: first the classes that are computed, in the order of layout files,
+    /// then serial, free.
     pub retired: [u64; 11],
 
-    /// How many ticks these took together, each from the start of its Issue to the end of its Leave.
+    /// How many ticks these instructions took in total, each from the start of its Issue to the end of its Leave.
     pub latencies: [u128; 11],
 
-    /// How many of each kind are on the chain that ends with the last of the moves that finish last.
+    /// How many moves of each kind are on the chain that ends with the last of the moves that finish latest.
     pub chain: [u64; 14],
 }

@@ -9,7 +9,7 @@ use cf_bind::Move;
 use cf_layout::Layout;
 use cf_timed::kind_place;
 
-/// The number, increased by this many where the move counts, capped at the greatest `u64`.
+/// The number, increased by this many if the move counts, capped at the maximum of `u64`.
 #[inline(always)]
 pub(crate) fn plus_if(counts: bool, number: u64, more: u64) -> u64
     ensures { result ≡ plus_where counts number more }

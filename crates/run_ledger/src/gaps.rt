@@ -20,10 +20,10 @@ pub(crate) struct StageGaps {
     /// Whether that move left an instruction or a result in the stage.
     pub(crate) is_held: bool,
 
-    /// How long the gaps are before which one was left.
+    /// How long the gaps are in which the stage held an instruction or a result.
     pub(crate) waiting: u64,
 
-    /// How long the others are.
+    /// How long the other gaps are.
     pub(crate) empty: u64,
 }
 

@@ -12,17 +12,17 @@ use cf_layout::Layout;
 use cf_timed::TimedMove;
 use rv_inst::{Class, class_of, decode_m};
 
-/// When the instructions in the stages were issued, and how long those took that retired.
+/// When the instructions in the stages were issued, and how long the instructions took that retired.
 #[derive(Clone, Copy)]
 pub(crate) struct Latencies {
-    /// For each stage when the Issue of the last instruction in it started, in ticks.
+    /// For each stage, when the Issue of the last instruction in it started, in ticks.
     pub(crate) issued: [u64; 34],
 
     /// How many instructions of each class retired, in class order.
     pub(crate) retired: [u64; 11],
 
-    /// How many ticks these took together, each from the start of its Issue to the end of its Leave. Those in the pipe
-    /// at one time are all counted, so the sum exceeds the time of the run.
+    /// How many ticks these instructions took in total, each from the start of its Issue to the end of its Leave. Those
+    /// in the pipe at the same time are all counted, so the sum can exceed the time of the run.
     pub(crate) ticks: [u128; 11],
 }
 
@@ -60,7 +60,7 @@ fn class_retired(event: &Event) -> Option<Class>
     }
 }
 
-/// The counts, with one more instruction of the class.
+/// The counts with one more instruction of the class.
 #[inline(always)]
 fn one_retired(class: Class, counts: [u64; 11]) -> [u64; 11]
     ensures { result ≡ with_one class counts }
@@ -71,7 +71,7 @@ fn one_retired(class: Class, counts: [u64; 11]) -> [u64; 11]
     counts
 }
 
-/// The sums, with so many more ticks for the class.
+/// The sums with this many more ticks for the class.
 #[inline(always)]
 fn ticks_added(class: Class, more: u64, ticks: [u128; 11]) -> [u128; 11]
     ensures { result ≡ with_ticks class more ticks }

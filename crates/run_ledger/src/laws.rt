@@ -1,4 +1,4 @@
-//! The laws of a breakdown: what holds of every run. Each is the contract of a function that does nothing.
+//! The laws of a breakdown: what holds for every run. Each is the contract of a function that does nothing.
 
 ghost use Rattle.std.specs.Prelude.{◌≡◌, ◌+◌, ℕ, List};
 ghost use Rattle.cf_layout.specs.Layout.{Plan};
@@ -12,8 +12,8 @@ ghost use Rattle.run_ledger.specs.Gaps.{empty_time, waiting};
 ghost use Rattle.run_ledger.specs.SeenMoves.{seen_in, time_of, untimed_all};
 ghost use Rattle.run_ledger.specs.Using.{uses_stage};
 
-/// The chain that is followed back from the last of the moves that finish last is a chain of the run. The sum of its
-/// delays is the run's time, so no chain has a greater sum.
+/// The chain that is followed back from the last of the moves that finish latest is a chain of the run. The sum of its
+/// delays is the run's time, so no chain has a larger sum.
 pub fn chain_is_longest()
     ensures chain { (plan : Plan) (moves : List DelayedMove) →
         IsChain plan moves (longest_chain plan moves) }
@@ -21,8 +21,8 @@ pub fn chain_is_longest()
         sum_of_delays (longest_chain plan moves) ≡ greatest_time (moves_with_times plan moves) }
 {}
 
-/// How long each stage is in use, waits and is empty adds up to the run's time. So no two moves use a stage at one time,
-/// and no time is counted twice or left out.
+/// The times in which a stage is in use, waits and is empty add up to the run's time. So no two moves use a stage at
+/// the same time, and no time is counted twice or left out.
 pub fn stages_add_up()
     ensures { (plan : Plan) (rule : DelayRule) (s : State) (trace : List Made) (i : ℕ) →
         busy (uses_stage plan i) (untimed_all (seen_in plan rule s trace)) + waiting plan (seen_in plan rule s trace) i

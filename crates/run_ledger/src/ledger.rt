@@ -1,4 +1,4 @@
-//! Which moves used the sites of a processor last, and how long each was in use.
+//! Which moves used the sites of a processor last, and how long each stage and siding was in use.
 
 ghost use Rattle.std.specs.Prelude.{◌≡◌, map, slice_set};
 ghost use Rattle.cf_timed.specs.Times.{delayed};
@@ -19,7 +19,7 @@ pub(crate) struct Ledger {
     pub(crate) count: u64,
     /// The mark of each site, by its number.
     pub(crate) marks: [ChainMark; 102],
-    /// The mark of the last of the moves that finish last.
+    /// The mark of the last of the moves that finish latest.
     pub(crate) last: ChainMark,
     pub(crate) stages: [u64; 33],
     pub(crate) sidings: [u64; 8],
@@ -62,7 +62,7 @@ impl Ledger {
         latest
     }
 
-    /// Puts the mark at a site.
+    /// Sets the mark at a site.
     #[inline(always)]
     fn put_at(&mut self, mark: ChainMark, place: usize)
         ensures { self.new ≡ with_marks self.old (slice_set self.old.marks place mark) }
@@ -72,7 +72,7 @@ impl Ledger {
         }
     }
 
-    /// Puts the mark at some sites.
+    /// Sets the mark at some sites.
     fn put(&mut self, mark: ChainMark, places: &[usize])
         ensures { self.new ≡ with_marks self.old (put_marks mark self.old.marks places.now) }
     {
@@ -81,7 +81,7 @@ impl Ledger {
         }
     }
 
-    /// The mark of a move that is made now, and takes so many ticks.
+    /// The mark of a move that is made now and takes this many ticks.
     #[tactic(auto, unfolding(crate::specs::Ledgers::followed, crate::specs::Ledgers::mark_of))]
     fn mark_of(&self, mv: Move, ticks: u64, places: &[usize]) -> ChainMark
         requires { places.now ≡ place_numbers self.now.layout mv }
@@ -95,7 +95,7 @@ impl Ledger {
         }
     }
 
-    /// Records a move that is made now, and takes so many ticks. Numbers are capped at the greatest `u64`.
+    /// Records a move that is made now and takes this many ticks. Numbers are capped at the maximum of `u64`.
     #[tactic(auto, unfolding(crate::specs::Ledgers::ledger_noted))]
     pub(crate) fn record(&mut self, mv: Move, ticks: u64)
         ensures { self.new ≡ ledger_noted self.old (delayed mv ticks) }

@@ -1,4 +1,4 @@
-//! What the time of a run is made of: a ledger of its moves, and timed runs for which a ledger is kept.
+//! What the time of a run consists of: a ledger of its moves, and timed runs for which a ledger is kept.
 #![tactic(auto)]
 
 mod breakdown;

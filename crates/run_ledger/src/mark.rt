@@ -1,4 +1,4 @@
-//! What is recorded of the last move that used a site.
+//! What is recorded about the last move that used a site.
 
 ghost use Rattle.std.specs.Prelude.{◌≡◌};
 ghost use Rattle.run_ledger.specs.Ledgers.{later as later_mark, no_chain_mark};
@@ -30,7 +30,7 @@ impl ChainMark {
     }
 }
 
-/// The mark of the move that finishes later, or of the later move where both finish at the same time.
+/// The mark of the move that finishes later, or of the later move if both finish at the same time.
 #[inline(always)]
 pub(crate) fn later(a: ChainMark, b: ChainMark) -> ChainMark
     ensures { result ≡ later_mark a b }

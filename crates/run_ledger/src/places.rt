@@ -42,7 +42,7 @@ fn cell(k: usize, c: usize) -> usize
     38 + 8 * k + c
 }
 
-/// Appends a site where `taken` is set.
+/// Appends a site if `taken` is set.
 #[inline(always)]
 fn push_if(places: &mut ArrayVec<usize, 10>, taken: bool, place: usize)
     requires { length places.old.items < 10 }
@@ -98,7 +98,7 @@ fn push_all(places: &mut ArrayVec<usize, 10>, more: &[usize])
     }
 }
 
-/// The sites that the move uses, put into an empty list.
+/// Puts the sites that the move uses into an empty list.
 fn push_places(layout: &Layout, mv: Move, places: &mut ArrayVec<usize, 10>)
     requires { places.old.items ≡ [] }
     ensures { places.new.items ≡ place_numbers layout.now mv }

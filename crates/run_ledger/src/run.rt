@@ -15,8 +15,8 @@ use cf_io::{Failed, Nowhere, Sink, Source};
 use cf_run::known;
 use cf_timed::{Clock, TimedOptions, TimedRun, run_watched};
 
-/// Runs an opened processor as `run_timed` of cf_timed does, by a clock and with a ledger that have recorded no move.
-/// The ledger records the same moves as the clock. It allocates no memory and always terminates.
+/// Runs an opened processor in the same way as `run_timed` of cf_timed, with a clock and a ledger that have recorded no
+/// move. The ledger records the same moves as the clock. It allocates no memory and always terminates.
 pub fn run_noted<S: Source, K: Sink>(
     core: &mut Core,
     candidates: &mut Candidates,

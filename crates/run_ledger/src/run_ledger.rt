@@ -15,8 +15,8 @@ use cf_layout::Layout;
 use cf_timed::{TimedMove, Watcher};
 
 /// For each site of a processor the last move that used it, with the counts by kind of the chain that ends with it; how
-/// long each stage and siding was in use, and each stage waited and was empty; the counts of moves by kind; and how long
-/// the instructions of each class took. It allocates no memory.
+/// long each stage and siding was in use, and how long each stage waited and was empty; the counts of moves by kind;
+/// and how long the instructions of each class took. It allocates no memory.
 #[derive(Clone, Copy)]
 pub struct RunLedger {
     pub(crate) sites: Ledger,
@@ -38,8 +38,8 @@ impl RunLedger {
         }
     }
 
-    /// Records a move that was made, with its event, and the processor after it. Numbers are capped at the greatest of their
-    /// types.
+    /// Records a move that was made, with its event, and the processor after it. Numbers are capped at the maximum of
+    /// their types.
     #[tactic(auto, unfolding(crate::specs::RunLedgers::move_noted))]
     fn record(&mut self, core: &Core, event: &Event, done: &TimedMove)
         ensures { self.new ≡ move_noted self.old (seen_move done.now (made_as done.now.mv event.now core.now.state)) }
@@ -50,7 +50,7 @@ impl RunLedger {
         self.sites.record(done.mv, done.delay);
     }
 
-    /// What the time of the run is made of.
+    /// What the time of the run consists of.
     #[tactic(auto, unfolding(crate::specs::RunLedgers::breakdown_in))]
     pub fn breakdown(&self) -> Breakdown
         ensures { result ≡ breakdown_in self.now }

@@ -1,4 +1,4 @@
--- What a run writes to the report while it runs, where it does not say how far it has come.
+-- What a run writes to the report while it runs, if it does not report its progress.
 use Rattle.std.specs.Prelude.{None}
 use Rattle.run_options.specs.declared.reporting.Reporting.{Reporting}
 use Rattle.run_options.specs.declared.show.Show.{Show}
@@ -8,7 +8,7 @@ use Rattle.run_options.specs.declared.show.Show.TheVariants as shows
 abbrev pub only : Show → Reporting
 only show = record { show = show; every = None }
 
--- the closing report alone, the retirements, or the moves
+-- only the closing report, the retirements, or the moves
 abbrev pub report : Reporting
 report = only shows.Report
 

@@ -1,5 +1,5 @@
-//! Options of a run: what it shows, its guess rule, and the greatest limits of retired instructions, of the statements of
-//! a drawn program, and of a search of all orders.
+//! Options of a run: what it shows, its guess rule, and the maximum limits of retired instructions, of the statements
+//! of a drawn program, and of a search of all orders.
 #![tactic(auto)]
 
 mod guess_rule;

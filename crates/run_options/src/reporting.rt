@@ -2,12 +2,12 @@
 
 use crate::Show;
 
-/// What a run writes to the report while it runs, before the lines that close it.
+/// What a run writes to the report while it runs, before the closing lines.
 #[derive(Clone, Copy)]
 pub struct Reporting {
     /// What it shows of its instructions and moves.
     pub show: Show,
 
-    /// After each of how many retired instructions it says how far it has come; if it does.
+    /// The number of retired instructions after which it reports its progress, each time; if it does.
     pub every: Option<u64>,
 }

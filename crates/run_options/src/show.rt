@@ -1,6 +1,6 @@
 //! What a run shows.
 
-/// What a run writes to the report while it runs, before the lines that close it.
+/// What a run writes to the report while it runs, before the closing lines.
 #[derive(Clone, Copy, PartialEq, Eq)]
 pub enum Show {
     /// Nothing.

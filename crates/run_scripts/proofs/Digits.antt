@@ -19,7 +19,7 @@ one-digit d low high =
     let e : 48 + (d - 48) ≡ d = omega arith in
     rw e at (decimal_digit (d - 48) (omega arith))
 
--- two digits, of which the first is not zero
+-- two digits, the first of which is not zero
 pub two-digits : (t d : ℕ) → 49 ≤ t → t < 58 → 48 ≤ d → d < 58 → decimal ((t - 48) * 10 + (d - 48)) ≡ t ∷ d ∷ []
 two-digits t d some high low below =
     let first : digit_value t ≡ t - 48 = digit_is t (omega arith) high in

@@ -1,4 +1,4 @@
--- What a text says whose first line is that of a move, as it is written.
+-- What a text says if its first line is that of a move, as it is written.
 use Rattle.std.proofs.Common.{◌≡◌, ◌∙◌, ap, ℕ, zero, suc, ◌+◌, ◌-◌, ◌<◌, ◌≤◌, ◌^◌, Bool, true, false, List, [], ◌∷◌, ◌++◌, length, get_or, drop, refl, sym, arith, All, Ok, Err, lit≤}
 use Rattle.std.specs.Prelude.{codes, decimal, nat_eq, nat_lt, ◌==◌, if◌then◌else◌}
 use Rattle.std.specs.List.{list_all, slice_split, starts_with}
@@ -26,7 +26,7 @@ use Rattle.run_scripts.specs.MoveLines.{NumbersBelow, move_in, move_read, words_
 use Rattle.run_scripts.specs.Scripts.{is_skipped, told_by, told_from}
 use Rattle.run_scripts.proofs.ReadBack.{read-back}
 
--- a byte that ends no line
+-- a byte other than a line feed
 abbrev is_shown : ℕ → Bool
 is_shown byte = nat_lt 31 byte
 
@@ -71,7 +71,7 @@ line-shown Leave h = refl
 line-shown Exit h = refl
 line-shown Serve h = refl
 
--- it is no comment
+-- the line of a move is not a comment
 no-comment : (mv : Move) → starts_with nat_eq (move_line mv) (codes "#") ≡ false
 unfolding move_line
 no-comment (Issue g) = refl
@@ -89,13 +89,13 @@ no-comment Leave = refl
 no-comment Exit = refl
 no-comment Serve = refl
 
--- where words give a move, there are some
+-- if words give a move, there are some
 some-words : (words : List (List ℕ)) (mv : Move) → words_read words ≡ Ok mv → (length words == 0) ≡ false
 unfolding words_read move_read kind_named
 some-words [] mv e = absurd (cc)
 some-words (word ∷ words) mv e = grind (arith, nat_tests)
 
--- and so does a line
+-- and a line that gives a move has words
 some-in : (line : List ℕ) (mv : Move) → move_in line ≡ Ok mv → (length (words_of line) == 0) ≡ false
 unfolding move_in
 some-in line mv e = by (is_ascii line) e
@@ -108,7 +108,7 @@ line-kept : (mv : Move) → NumbersBelow (10 ^ 9) mv → is_skipped (move_line m
 unfolding is_skipped
 line-kept mv h = rw (no-comment mv) (some-in (move_line mv) mv (read-back mv h))
 
--- a line of such bytes is the first before a line feed
+-- a line of such bytes is the first line before a line feed
 no_feed : (byte : ℕ) → is_shown byte ≡ true → is_line_feed byte ≡ false
 no_feed byte h = grind (arith, nat_tests)
 
@@ -149,7 +149,7 @@ says-first mv text rest after e f small above =
     let lines : text_lines text ≡ move_line mv ∷ text_lines after = rw (e, f) (first-shown (move_line mv) after (line-shown mv small)) in
     rw (lines, line-kept mv small, read-back mv small) refl
 
--- and a line that is no longer gives this move
+-- and a line without anything after it gives this move
 pub says-whole : (mv : Move) (line rest : List ℕ) → line ≡ move_line mv ++ rest → length rest < 1 → NumbersBelow (10 ^ 9) mv → Ok mv ≡ move_in line
 says-whole mv line [] e none small = rw (e, append-nil (move_line mv)) (sym (read-back mv small))
 says-whole mv line (byte ∷ rest) e none small = absurd (omega arith)

@@ -16,7 +16,7 @@ pub named-at : (place : ℕ) (kind : Kind) → place < 14 → kind ≡ slice_ind
 unfolding name_at names
 named-at place kind within is = name-there kinds place kind within is
 
--- it has few letters
+-- a name has few letters
 pub name-few : (kind : Kind) → length (name_of kind) ≤ 7
 name-few Issue = omega arith
 name-few Emit = omega arith

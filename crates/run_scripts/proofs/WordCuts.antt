@@ -1,4 +1,4 @@
--- The first word is taken off a text.
+-- The first word is split off a text.
 use Rattle.std.proofs.Common.{◌≡◌, ℕ, ◌+◌, ◌-◌, ◌<◌, ◌≤◌, Bool, true, false, List, [], ◌∷◌, ◌++◌, length, get_or, take, drop, refl, sym, ◌∙◌, ap, arith, cond, suc, zero}
 use Rattle.std.specs.Prelude.{not, ◌==◌, slice_index_or}
 use Rattle.std.specs.List.{filter, slice_split, onto_first, position_or_len, prefix_len, suffix_len}
@@ -13,7 +13,7 @@ use Rattle.rv_text.specs.Pieces.{is_blank, without_front, without_end, trimmed, 
 use Rattle.rv_text.proofs.Cuts.{first_piece}
 use Rattle.run_scripts.specs.Words.{is_word, words_of, first_word}
 
--- what is put onto the first part stays there when more parts are added after it
+-- what is prepended to the first part stays there when more parts are added after it
 onto_first-append : (x : ℕ) (parts more : List (List ℕ)) → 0 < length parts → onto_first x (parts ++ more) ≡ onto_first x parts ++ more
 onto_first-append x [] more h = absurd (omega arith)
 onto_first-append x (part ∷ parts) more h = refl
@@ -182,7 +182,7 @@ none_begun (x ∷ xs) h =
     let some : (length (x ∷ xs) == 0) ≡ false = grind (arith, nat_tests) in
     rw h (some ∙ sym (some_of_parts x (slice_split is_blank xs) (parts-some is_blank xs)))
 
--- a text of blanks alone has no words
+-- a text that consists only of blanks has no words
 pub no-words : (text : List ℕ) → (length (trimmed text) == 0) ≡ (length (words_of text) == 0)
 no-words text = none_begun (trimmed text) (begun-trimmed text) ∙ ap (λ words. length words == 0) (words-trimmed text)
 

@@ -21,7 +21,7 @@ use Rattle.run_scripts.proofs.WordCuts.{words-at}
 abbrev pub is_letter : ℕ → Bool
 is_letter byte = nat_lt 32 byte && nat_lt byte 128
 
--- a text of such bytes that is not empty
+-- a nonempty text of such bytes
 pub record IsWord (text : List ℕ) : Type 0 where
   pub some : 0 < length text
   pub bytes : list_all is_letter text ≡ true

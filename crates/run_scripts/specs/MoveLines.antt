@@ -14,7 +14,7 @@ use Rattle.run_scripts.specs.declared.kind.Kind.TheVariants as kind
 use Rattle.run_scripts.specs.Kinds.{kind_named}
 use Rattle.run_scripts.specs.Words.{words_of, first_word, first_number, first_address}
 
--- the kind, or a refusal where it is missing
+-- the kind, or a refusal if it is missing
 abbrev pub kind_or_refusal : Option Kind → Result Kind ScriptKind
 kind_or_refusal (Some k) = Ok k
 kind_or_refusal None = Err UnknownMove
@@ -46,7 +46,7 @@ slide_read words =
     and_then (first_number words) (λ k.
     and_then (first_number (drop 1 words)) (λ c. read_with (Slide k c) (drop 1 (drop 1 words))))
 
--- the move of a kind, with the words that have to follow
+-- the move of a kind, with the words that must follow
 abbrev pub kind_read : Kind → List (List ℕ) → Result (Move × List (List ℕ)) ScriptKind
 kind_read kind.Issue words = issue_read words
 kind_read kind.Emit words = read_with Emit words

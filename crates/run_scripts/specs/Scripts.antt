@@ -1,4 +1,4 @@
--- What a script says (a format of this project): one move a line; comments and lines without words are skipped.
+-- What a script says (a format of this project): one move a line; comments and blank lines are skipped.
 use Rattle.std.specs.Prelude.{ℕ, ◌+◌, ◌==◌, ◌||◌, Bool, Option, Some, None, Result, Ok, Err, List, [], ◌∷◌, length, drop, codes, nat_eq, if◌then◌else◌}
 use Rattle.std.specs.List.{starts_with}
 use Rattle.rv_text.specs.Lines.{text_lines}
@@ -8,17 +8,17 @@ use Rattle.run_scripts.specs.declared.refusal.ScriptErr.{ScriptErr}
 use Rattle.run_scripts.specs.Words.{words_of}
 use Rattle.run_scripts.specs.MoveLines.{move_in}
 
--- the moves of a script in order, each after the number of its line, up to the first line that gives no move, and that
--- line's refusal
+-- the moves of a script in order, each after its line number, up to the first line that gives no move, and that line's
+-- refusal
 pub record ScriptLines : Type 0 where
   pub moves : List (ℕ × Move)
   pub refused : Option ScriptErr
 
--- a comment, or a line without words
+-- a comment, or a blank line
 unfoldable pub is_skipped : List ℕ → Bool
 is_skipped line = starts_with nat_eq line (codes "#") || length (words_of line) == 0
 
--- what a script says from a line on, where this line gives that move or refusal
+-- what a script says from a line on, if this line gives that move or refusal
 abbrev pub told_by : ℕ → Result Move ScriptKind → ScriptLines → ScriptLines
 told_by line (Ok mv) after = record after { moves = (line, mv) ∷ after.moves }
 told_by line (Err kind) after = record { moves = []; refused = Some (record { line = line; kind = kind }) }

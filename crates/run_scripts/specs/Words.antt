@@ -7,16 +7,16 @@ use Rattle.rv_text.specs.Numbers.{numeral}
 use Rattle.run_scripts.specs.declared.refusal.ScriptKind.{ScriptKind}
 use Rattle.run_scripts.specs.declared.refusal.ScriptKind.TheVariants.{BadNumber}
 
--- a piece that is not empty
+-- a nonempty piece
 abbrev pub is_word : List ℕ → Bool
 is_word [] = false
 is_word (byte ∷ piece) = true
 
--- the words of a line, which spaces and tabs separate
+-- the words of a line, which are separated by spaces and tabs
 unfoldable pub words_of : List ℕ → List (List ℕ)
 words_of line = filter is_word (slice_split is_blank line)
 
--- the first of some words, and an empty text where there is none
+-- the first of some words, or an empty text if there is none
 abbrev pub first_word : List (List ℕ) → List ℕ
 first_word [] = []
 first_word (word ∷ words) = word

@@ -23,7 +23,7 @@ pub enum DelayKind {
 /// The first line that gives no delay, and why.
 #[derive(Clone, Copy, Debug, PartialEq, Eq)]
 pub struct DelayErr {
-    /// The number of the line, from 1.
+    /// The line number, from 1.
     pub line: u32,
 
     /// Why it gives none.

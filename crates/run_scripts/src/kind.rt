@@ -2,7 +2,7 @@
 ghost use Rattle.std.specs.Prelude.{◌≡◌, ◌<◌, ◌≤◌, IfSome, length};
 ghost use Rattle.run_scripts.specs.Kinds.{name_at, name_of, kind_named, place_named};
 
-/// A move without its numbers and its guess: what the first word of its line says.
+/// A move without its numbers and its guess: the meaning of the first word of its line.
 #[derive(Clone, Copy)]
 pub(crate) enum Kind {
     Issue,

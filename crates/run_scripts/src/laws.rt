@@ -4,7 +4,7 @@ ghost use Rattle.cf_bind.specs.declared.moves.Move.{Move as AnyMove};
 ghost use Rattle.cf_bind.specs.MoveTexts.{move_line};
 ghost use Rattle.run_scripts.specs.MoveLines.{NumbersBelow, move_in};
 
-/// The line of a move, read back, gives that move, where each number of a stage, a siding or a cell has at most nine
+/// The line of a move, read back, gives that move, if each number of a stage, a siding or a cell has at most nine
 /// digits.
 #[tactic(auto, using(crate::proofs::ReadBack::reading_back))]
 pub fn read_back()

@@ -29,7 +29,7 @@ fn read_guess(words: &mut Words<'_>) -> Result<Guess, ScriptKind>
     }
 }
 
-/// The move of a kind, with the words that have to follow.
+/// The move of a kind, with the words that must follow.
 fn read_kind(kind: Kind, words: &mut Words<'_>) -> Result<Move, ScriptKind>
     ensures { ReadsWords result words.new (kind_read kind words.old) }
 {
@@ -73,7 +73,7 @@ fn read_words(mut words: Words<'_>) -> Result<Move, ScriptKind>
 }
 
 /// The move that a line gives, or why it gives none: the first refusal of `NotAscii`, `UnknownMove`, `BadNumber` and
-/// `ExtraWords`. No line is skipped: one without words is `UnknownMove`.
+/// `ExtraWords`. No line is skipped: a blank one is `UnknownMove`.
 #[tactic(auto, unfolding(crate::specs::MoveLines::move_in))]
 pub fn read_move(line: &[u8]) -> Result<Move, ScriptKind>
     ensures { result ≡ move_in line.now }

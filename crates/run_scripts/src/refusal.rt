@@ -20,7 +20,7 @@ pub enum ScriptKind {
 /// The first line of a script that gives no move, and why.
 #[derive(Clone, Copy, Debug, PartialEq, Eq)]
 pub struct ScriptErr {
-    /// The number of the line, from 1.
+    /// The line number, from 1.
     pub line: u32,
 
     /// Why it gives none.

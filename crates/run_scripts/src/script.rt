@@ -13,11 +13,10 @@ use cf_bind::Move;
 use rv_text::cut_line;
 use std::marker::Model;
 
-/// The greatest length of a script's text, in bytes.
+/// The maximum length of a script's text, in bytes.
 pub const MOST_SCRIPT: usize = 16_777_216;
 
-/// A script over a borrowed text. Contracts see it as what is left of it: the moves, and the refusal or the end after
-/// them.
+/// A script over a borrowed text. Contracts see it as the rest of it: the moves, and the refusal or the end after them.
 #[derive(Drop)]
 pub struct Script<'a> {
     /// The number of lines that have been read.
@@ -48,7 +47,7 @@ pub fn is_skipped(line: &[u8]) -> bool
     line.starts_with(b"#") || Words::of(line).is_empty()
 }
 
-/// The move of the first line of a text, as `write_move` writes it, and what follows the line.
+/// The move of the first line of a text, as `write_move` writes it, and the text after the line.
 #[inline(always)]
 fn cut_written(text: &[u8]) -> Option<(Move, &[u8])>
     ensures says { IfSome result (λ cut. (above : ℕ) → told_from above (text_lines text.now)
@@ -98,8 +97,8 @@ impl<'a> Script<'a> {
         Ok(None)
     }
 
-    /// The next move with its line, counted from 1; `None` exactly at the end. After a refusal each later call returns
-    /// the same.
+    /// The next move with its line, counted from 1; `None` if and only if the script is at its end. After a refusal
+    /// each later call returns the same.
     #[inline(always)]
     #[tactic(auto, using(crate::proofs::Counted::counting))]
     pub fn next(&mut self) -> Result<Option<(u32, Move)>, ScriptErr>

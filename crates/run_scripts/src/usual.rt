@@ -8,7 +8,7 @@ ghost use Rattle.run_scripts.specs.MoveLines.{NumbersBelow};
 use crate::kind::Kind;
 use cf_bind::{Guess, Move};
 
-/// The kind whose name a text begins with, and what follows the name.
+/// The kind whose name a text begins with, and the text after the name.
 // The names of the most frequent moves are compared first.
 #[inline(always)]
 fn cut_name(text: &[u8]) -> Option<(Kind, &[u8])>
@@ -46,7 +46,7 @@ fn one_digit(ones: u8) -> Option<u32>
     }
 }
 
-/// The number of two digits, of which the first is not zero.
+/// The number of two digits, the first of which is not zero.
 #[inline(always)]
 #[tactic(auto, using(crate::proofs::Digits::decimals))]
 fn two_digits(tens: u8, ones: u8) -> Option<u32>
@@ -59,7 +59,7 @@ fn two_digits(tens: u8, ones: u8) -> Option<u32>
     }
 }
 
-/// The number below 100 that a text begins with, without a leading zero, and what follows it.
+/// The number below 100 that a text begins with, without a leading zero, and the text after it.
 #[inline(always)]
 fn cut_digits(text: &[u8]) -> Option<(u32, &[u8])>
     ensures text { IfSome result (λ cut. text.now ≡ decimal cut.0 ++ cut.1.now) }
@@ -76,7 +76,7 @@ fn cut_digits(text: &[u8]) -> Option<(u32, &[u8])>
     Some((one_digit(*first)?, after))
 }
 
-/// The number below 100 that a text begins with after a space, and what follows it.
+/// The number below 100 that a text begins with after a space, and the text after it.
 #[inline(always)]
 fn cut_number(text: &[u8]) -> Option<(u32, &[u8])>
     ensures text { IfSome result (λ cut. text.now ≡ codes " " ++ decimal cut.0 ++ cut.1.now) }
@@ -88,7 +88,7 @@ fn cut_number(text: &[u8]) -> Option<(u32, &[u8])>
     }
 }
 
-/// The guess that a text begins with after a space, and what follows it; `None` for an address.
+/// The guess that a text begins with after a space, and the text after it; `None` for an address.
 #[inline(always)]
 fn cut_guess(text: &[u8]) -> Option<(Guess, &[u8])>
     ensures text { IfSome result (λ cut. text.now ≡ codes " " ++ guess_text cut.0 ++ cut.1.now) }
@@ -102,7 +102,7 @@ fn cut_guess(text: &[u8]) -> Option<(Guess, &[u8])>
     }
 }
 
-/// The move of a kind that has a stage alone, at this stage.
+/// The move of a kind that has only a stage, at this stage.
 #[inline(always)]
 #[tactic(auto, unfolding(cf_bind::specs::MoveTexts::move_line))]
 fn at_stage(kind: Kind, stage: u32) -> Option<Move>
@@ -122,8 +122,8 @@ fn at_stage(kind: Kind, stage: u32) -> Option<Move>
     }
 }
 
-/// The move whose line a text begins with, and what follows it; `None` also for some moves, with an address or a greater
-/// number.
+/// The move whose line a text begins with, and the text after it; `None` also for some moves, with an address or a
+/// larger number.
 #[inline(always)]
 #[tactic(auto, unfolding(cf_bind::specs::MoveTexts::move_line))]
 pub(crate) fn cut_move(text: &[u8]) -> Option<(Move, &[u8])>

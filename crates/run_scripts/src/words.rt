@@ -7,7 +7,7 @@ use crate::refusal::ScriptKind;
 use rv_text::{numeral, split_name, trim};
 use std::marker::Model;
 
-/// The words of a line that are left to read. Words are separated by spaces and tabs.
+/// The remaining words of a line. Words are separated by spaces and tabs.
 #[derive(Drop)]
 pub struct Words<'a> {
     rest: &'a [u8],
@@ -38,7 +38,7 @@ impl<'a> Words<'a> {
         trim(self.rest).is_empty()
     }
 
-    /// The next word, or an empty text where none is left.
+    /// The next word, or an empty text if none is left.
     #[tactic(auto, using(crate::proofs::WordCuts::cuts))]
     pub fn next(&mut self) -> &'a [u8]
         ensures word { result.now ≡ first_word self.old }

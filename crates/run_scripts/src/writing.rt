@@ -36,7 +36,7 @@ fn has_words(mv: Move)
     }
 }
 
-/// Makes the line hold the move's text and nothing else, without a line feed.
+/// Replaces the contents of the line by the move's text, without a line feed.
 pub fn write_move(mv: Move, line: &mut TextLine)
     ensures { line.new ≡ move_line mv }
 {

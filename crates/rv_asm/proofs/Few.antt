@@ -117,7 +117,7 @@ label-length text e =
     let colon = started-length (drop (name_length text) text) both.1 in
     (one, omega (arith, colon, length-drop (name_length text) text))
 
--- labels that can be in this many bytes with their names and colons, and names without NUL
+-- labels that fit into this many bytes with their names and colons, and names without NUL
 record AreFew (labels : List LabelView) (bytes : ℕ) : Type 0 where
   count : 2 * length labels ≤ bytes
   names : length labels + length (joined_names labels) ≤ bytes

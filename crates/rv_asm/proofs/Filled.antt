@@ -1,4 +1,4 @@
--- The sections grow line by line, and the bytes with them.
+-- The sections grow line by line, and so do the bytes.
 use Rattle.std.proofs.Common.{◌≡◌, ℕ, ◌+◌, Bool, true, false, List, [], ◌∷◌, ◌++◌, refl, sym, ◌∙◌, ap, subst, append_assoc, inl, inr}
 use Rattle.std.specs.Prelude.{Result, Ok, Err, ◌⊎◌, if◌then◌else◌}
 use Rattle.rv_asm.specs.declared.refusal.AsmKind.{AsmKind}
@@ -35,7 +35,7 @@ spells-else : (b : Bool) (ps qs : List Piece) (bs cs : List ℕ) → Spells ps b
 spells-else true ps qs bs cs h k = h
 spells-else false ps qs bs cs h k = spells-append ps qs bs cs h k
 
--- an answer that gives bytes has pieces
+-- an answer with bytes has pieces
 record HasPieces (bytes : List ℕ) (answer : Result (List Piece) AsmKind) : Type 0 where
   pieces : List Piece
   is : answer ≡ Ok pieces
@@ -75,7 +75,7 @@ goes_on s out new text h f =
       };
     }
 
--- the sections hold the earlier lines, and the answer is what the other lines make of them
+-- the sections hold the earlier lines, and the answer is that of the remaining lines, continued from there
 pub record IsReached (above : ℕ) (out : Output) (lines : List (List ℕ)) (answer : Result Sections AsmErr) : Type 0 where
   pub sections : Sections
   pub shows : HoldsSections sections out

@@ -31,7 +31,7 @@ aimed-fits (jump.Branch c rs1 rs2) z i e h =
 
 pub ruleset jumps = (aimed-fits)
 
--- an answer by steps has what its last step ensures
+-- an answer computed in steps has the property that its last step ensures
 pub ok_then : {A B : Type 0} (P : A → Type 0) (Q : B → Type 0) (x : Result A TextErr) (step : A → Result B TextErr)
     → IfOk x P → ((a : A) → P a → IfOk (step a) Q) → IfOk (and_then x step) Q
 ok_then P Q (Ok a) step h k = k a h

@@ -1,4 +1,4 @@
--- Labels that are found by their names, as if each were searched among all.
+-- Labels that are found by their names give the same answers as a search of the whole list.
 use Rattle.std.proofs.Common.{◌≡◌, ℕ, ◌+◌, ◌<◌, zero, suc, Bool, true, false, List, [], ◌∷◌, ◌++◌, length, map, Option, Some, None, cond, refl, sym, ap, subst, ◌∙◌, arith, ◌⊎◌, inl, inr, ⊎_elim, ltb}
 use Rattle.std.specs.Prelude.{◌≢◌, find, option_map, slice_index_or, slice_set, Vec}
 use Rattle.std.specs.BTreeMap.{BTreeMap, UpdatesBy, is_at}
@@ -30,7 +30,7 @@ others_stay : {K X : Type 0} (eq : K → K → Bool) (test : K → Bool) (old ne
 unfolding KeepsOthers
 others_stay eq test old new h = h
 
--- what is found at a name, and what is found at all others, is what is found at each
+-- what is known at one name, and at all other names, is known at each name
 by_name : (f g : List ℕ → Option ℕ) (name : List ℕ) (w : Option ℕ) → g name ≡ w → ((other : List ℕ) → bytes_eq name other ≡ false → g other ≡ f other)
     → (other : List ℕ) → g other ≡ cond (bytes_eq name other) w (f other)
 by_name f g name w here others other =
@@ -116,7 +116,7 @@ finds_after names found next name finds unknown after = record {
 
 -- ---- labels and what is found
 
--- the first element that passes is the one at an index before which no element passes
+-- the first element that passes is the one at an index, if no element before it passes
 find_at : (p : LabelView → Bool) (xs : List LabelView) (k : ℕ) (d : LabelView) → k < length xs → p (slice_index_or xs k d) ≡ true
     → ((i : ℕ) → i < k → p (slice_index_or xs i d) ≡ false) → find p xs ≡ Some (slice_index_or xs k d)
 find_at p [] k d within passes before = absurd (omega arith)
@@ -186,7 +186,7 @@ value_missing labels found name finds told =
     ap (option_map (λ (label : LabelView). label.value))
     (find_none (λ label. bytes_eq label.name name) labels blank (λ i within. other_label labels found name finds i blank within (λ e. absurd (cc))))
 
--- and the other way round
+-- and conversely
 pub unknown_missing : (labels : List LabelView) (found : List ℕ → Option ℕ) (name : List ℕ) (answer : Option ℕ) → found name ≡ answer →
     FindsNames (names_of labels) found → value_of_label labels name ≡ None
     → answer ≡ None
@@ -224,7 +224,7 @@ exported_found labels found name place d finds told =
     (λ i below other. rw (other_label labels found name finds i d below (λ e. let same : Some i ≡ Some place = sym e ∙ told in other (cc))) refl)
     ∙ ap (slice_set labels place) marked
 
--- no label is marked where the name is not found
+-- no label is marked if the name is not found
 pub exported_missing : (labels : List LabelView) (found : List ℕ → Option ℕ) (name : List ℕ) → FindsNames (names_of labels) found → found name ≡ None →
     exported labels name ≡ labels
 unfolding exported
@@ -251,7 +251,7 @@ kept_value items found name place label finds told e =
     value_found (map label_view items) found name place (label_view label) finds told
     ∙ ap (λ (l : LabelView). Some l.value) (named_at items place label (place_within items found name place finds told) e)
 
--- the label is exported where it is
+-- the label is exported, if it exists
 pub kept_exported : (items : List Label) (found : List ℕ → Option ℕ) (name : List ℕ) (place : ℕ) (label : Label) →
     FindsNames (names_of (map label_view items)) found
     → found name ≡ Some place → label ≡ slice_index_or items place label
@@ -262,7 +262,7 @@ kept_exported items found name place label finds told e =
     (named_at items place label (place_within items found name place finds told) e)
     ∙ sym (map-set label_view items place (record label { global = true }))
 
--- which leaves the names
+-- which leaves the names unchanged
 pub kept_names : (items : List Label) (found : List ℕ → Option ℕ) (name : List ℕ) (place : ℕ) (label : Label) →
     FindsNames (names_of (map label_view items)) found
     → found name ≡ Some place → label ≡ slice_index_or items place label

@@ -1,11 +1,11 @@
--- Steps none of which was refused.
+-- Steps, none of which was refused.
 use Rattle.std.proofs.Common.{◌≡◌, ℕ, refl}
 use Rattle.std.specs.Prelude.{Result, Ok, Err}
 use Rattle.rv_asm.specs.declared.refusal.AsmKind.{AsmKind}
 use Rattle.texts.specs.Answers.{and_then}
 use Rattle.rv_asm.specs.Assembling.{at_line}
 
--- the first step's answer, from which the second step makes the last
+-- the answer of the first step, from which the second step computes the last answer
 pub record Passes {A B E : Type 0} (x : Result A E) (step : A → Result B E) (last : B) : Type 0 where
   pub first : A
   pub is : x ≡ Ok first

@@ -178,7 +178,7 @@ placed-sized s item ps h e n = record {
   place = place-after s.place item h.place e;
 }
 
--- an item that was read fits where it is
+-- an item that was read fits at its position
 pub item-fits : (p : SectionPlace) (text : List ℕ) (item : SourceItem) → item_at p text ≡ Ok item → fits_at p item ≡ Ok tt
 unfolding item_at
 item-fits p text item e =
@@ -204,7 +204,7 @@ lines-sized above s t (line ∷ lines) h e =
     lines-sized (above + 1) r.first t lines
     (filled-sized s r.first (said line) h (passes_line (above + 1) (sections_after_line s (said line)) r.first r.is)) r.goes
 
--- what the first pass knows, and what the second makes of it
+-- what the first pass knows, and what the second pass produces from it
 pub record Looks (lines : List (List ℕ)) (sections : Sections) : Type 0 where
   pub labels : List LabelView
   pub drafted : (place : SectionPlace) × (draft_from 0 (record { place = start_of_text; labels = [] }) lines ≡ Ok (record { place = place; labels = labels }))

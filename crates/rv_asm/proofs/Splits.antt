@@ -1,4 +1,4 @@
--- One operand is taken off what is cut at commas.
+-- One operand is split off at a comma.
 use Rattle.std.proofs.Common.{◌≡◌, ℕ, ◌+◌, ◌<◌, ◌≤◌, List, [], ◌∷◌, length, take, drop, ◌∙◌, ap}
 use Rattle.std.specs.Prelude.{map, ◌==◌}
 use Rattle.std.specs.List.{slice_split, position_or_len, count_by}

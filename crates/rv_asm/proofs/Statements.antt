@@ -27,7 +27,7 @@ use Rattle.rv_text.proofs.Spellings.{FindsRegister, usual_names-find}
 use Rattle.rv_asm.specs.Seen.{JumpFits}
 use Rattle.rv_asm.proofs.Fitting.{ok_then}
 
--- nothing is said of an answer
+-- nothing is claimed about an answer
 any : {A : Type 0} (x : Result A TextErr) → IfOk x (λ a. Unit {0})
 any (Ok a) = tt
 any (Err e) = tt

@@ -1,4 +1,4 @@
--- Refusals of texts, as refusals of lines.
+-- Refusals of texts as refusals of lines.
 use Rattle.std.specs.Prelude.{Result, Ok, Err}
 use Rattle.rv_text.specs.declared.text_err.TextErr.{TextErr}
 use Rattle.rv_asm.specs.declared.refusal.AsmKind.{AsmKind}

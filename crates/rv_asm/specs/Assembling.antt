@@ -1,5 +1,5 @@
--- The program that a source stands for, or the first refusal: the source's length, bytes that are not ASCII, what a
--- line says by itself, and what it says with all labels known.
+-- The program that a source represents, or the first refusal. The tests are: the source's length, bytes that are not
+-- ASCII, each line by itself, and each line with all labels known.
 use Rattle.std.specs.Prelude.{ℕ, ◌+◌, false, nat_lt, Option, Some, None, Result, Ok, Err, List, [], ◌∷◌, ◌++◌, length, is_some, if◌then◌else◌}
 use Rattle.texts.specs.Bytes.{is_ascii}
 use Rattle.rv_asm.specs.declared.refusal.AsmKind.{AsmKind}
@@ -15,7 +15,7 @@ use Rattle.rv_asm.specs.Places.{start_of_text, section_address, place_after, ite
 use Rattle.rv_asm.specs.Labels.{LabelView, value_of_label, exported}
 use Rattle.rv_asm.specs.Pieces.{Piece, pieces_of}
 
--- a refusal with the number of its line
+-- a refusal with its line number
 abbrev pub at_line : {A : Type 0} → ℕ → Result A AsmKind → Result A AsmErr
 at_line line (Ok a) = Ok a
 at_line line (Err kind) = Err (record { line = line; kind = kind })
@@ -27,7 +27,7 @@ are_ascii above (line ∷ lines) =
     if is_ascii line then are_ascii (above + 1) lines
     else Err (record { line = above + 1; kind = NotAscii })
 
--- the labels with that of a line, whose value is the line's address
+-- the labels and the label of a line, whose value is the line's address
 abbrev pub with_label : List LabelView → SectionPlace → Option (List ℕ) → Result (List LabelView) AsmKind
 with_label labels place None = Ok labels
 with_label labels place (Some name) =
@@ -92,7 +92,7 @@ sections_of lines =
     and_then (draft_from 0 (record { place = start_of_text; labels = [] }) lines) (λ draft.
     sections_from 0 (empty_sections draft.labels) lines))
 
--- what a source stands for
+-- the program that a source represents
 unfoldable pub assembled : List ℕ → Result Sections AsmErr
 assembled source =
     if nat_lt 1048576 (length source) then Err (record { line = 0; kind = TooLarge (length source) })

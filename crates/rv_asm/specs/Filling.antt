@@ -13,7 +13,7 @@ use Rattle.rv_asm.specs.Pieces.{Piece, pieces_of}
 use Rattle.rv_asm.specs.Spelling.{Spells, GivesBytes}
 use Rattle.rv_asm.specs.Assembling.{Sections, with_export}
 
--- what a line with this text places
+-- the pieces that a line with this text places
 unfoldable pub line_pieces : List LabelView → SectionPlace → List ℕ → Result (List Piece) AsmKind
 line_pieces labels place text =
     and_then (item_at place (statement_in text)) (λ item. pieces_of labels (section_address place) item)

@@ -1,4 +1,4 @@
--- What a statement stands for, before the labels' values are known.
+-- The meaning of a statement, before the labels' values are known.
 use Rattle.std.specs.Prelude.{ℕ, ◌+◌, ◌*◌, Bool, true, false, List, length, if◌then◌else◌}
 use Rattle.rv_inst.specs.declared.instruction.Instr.{Instr}
 use Rattle.rv_text.specs.declared.statement.Jump.{Jump}
@@ -6,9 +6,9 @@ use Rattle.rv_asm.specs.declared.operations.Width.{Width}
 use Rattle.rv_asm.specs.declared.item.Far.{Far}
 use Rattle.rv_asm.specs.Operands.{bytes_of_width}
 
--- nothing; a change to the text or to the data; a name that is exported; one or two instructions; a jump or a branch to
--- a label; the address of a label, or a call to it, in two instructions; numbers, which may be labels where they are
--- words; a string, and whether a zero follows; a number of zeros
+-- nothing; a switch to the text section or to the data section; a name that is exported; one or two instructions; a
+-- jump or a branch to a label; the address of a label, or a call to it, in two instructions; numbers, which may be
+-- labels if they are words; a string, and whether a zero follows; this many zeros
 pub data SourceItem : Type 0 where
   Nothing : SourceItem
   Section : (in_text : Bool) → SourceItem

@@ -12,7 +12,7 @@ index_of_name places name = get_by (λ key. slice_cmp nat_cmp name key.items) pl
 abbrev pub names_of : List LabelView → List (List ℕ)
 names_of labels = map (λ label. label.name) labels
 
--- each name is found at its own index, so no name occurs twice; and what is found is the index of that name
+-- each name is found at its own index, so no name occurs twice; and the index that is found belongs to that name
 pub record FindsNames (names : List (List ℕ)) (found : List ℕ → Option ℕ) : Type 0 where
   pub each : (place : ℕ) (d : List ℕ) → place < length names → found (slice_index_or names place d) ≡ Some place
   pub within : (name : List ℕ) (place : ℕ) → found name ≡ Some place → place < length names

@@ -14,7 +14,7 @@ pub record LabelView : Type 0 where
 unfoldable pub value_of_label : List LabelView → List ℕ → Option ℕ
 value_of_label labels name = option_map (λ label. label.value) (find (λ label. bytes_eq label.name name) labels)
 
--- a label, exported where it has this name
+-- a label, exported if it has this name
 abbrev pub exported_as : List ℕ → LabelView → LabelView
 exported_as name label = if bytes_eq label.name name then record label { global = true } else label
 
@@ -22,10 +22,10 @@ exported_as name label = if bytes_eq label.name name then record label { global 
 unfoldable pub exported : List LabelView → List ℕ → List LabelView
 exported labels name = map (exported_as name) labels
 
--- where a program is entered: at the label `_start`, or else at the start of the text
+-- the entry point of a program: the label `_start`, or otherwise the start of the text
 unfoldable pub entry_point : List LabelView → ℕ
 entry_point labels = unwrap_or (value_of_label labels (codes "_start")) 0x10000
 
--- a label, as contracts see it
+-- a label as contracts see it
 abbrev pub label_view : Label → LabelView
 label_view label = record { name = label.name; value = label.value; in_text = label.in_text; global = label.global }

@@ -19,6 +19,6 @@ abbrev pub Objects : Object → Result Sections AsmErr → Type 0
 Objects object (Ok sections) = IsObject sections object
 Objects object (Err e) = ⊥
 
--- the refusal is the answer, unless there was no memory
+-- the refusal is the answer, unless there was not enough memory
 abbrev pub RefusesSource : AsmErr → Result Sections AsmErr → Type 0
 RefusesSource e answer = (e.kind ≡ NoMemory) ⊎ (answer ≡ Err e)

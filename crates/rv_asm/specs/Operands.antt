@@ -15,16 +15,16 @@ unfoldable pub count_is : ℕ → List ℕ → Result (Unit {0}) TextErr
 count_is wanted text =
     if operand_count text == wanted then Ok tt else Err (WrongCount (capped_count (operand_count text)) wanted)
 
--- the operands of a text that has some: the pieces between its commas, without the blanks around them
+-- the operands of a text that has some: the pieces between its commas, without surrounding blanks
 abbrev pub operand_texts : List ℕ → List (List ℕ)
 operand_texts text = map trimmed (pieces text)
 
--- the operands that are left, where a text is left
+-- the remaining operands, if any text is left
 abbrev pub operands_left : Option (List ℕ) → List (List ℕ)
 operands_left None = []
 operands_left (Some text) = operand_texts text
 
--- how much is left, with the comma before it
+-- the length of the remaining text, including the comma before it
 abbrev pub left_length : Option (List ℕ) → ℕ
 left_length None = 0
 left_length (Some text) = length text + 1
@@ -41,13 +41,13 @@ number_of_width Byte text = number_operand (negsuc 0x7f) (pos 0xff) text
 number_of_width Half text = number_operand (negsuc 0x7fff) (pos 0xffff) text
 number_of_width Word text = number_operand (negsuc 0x7fffffff) (pos 0xffffffff) text
 
--- an operand that stands for a label: an operand for a word that begins like a name
+-- an operand that names a label: an operand for a word that begins like a name
 abbrev pub names_label : Width → List ℕ → Bool
 names_label Byte text = false
 names_label Half text = false
 names_label Word text = begins_name text
 
--- an operand of a directive that places numbers: a label for a word, or a number that the width holds
+-- an operand of a directive that places numbers: a label for a word, or a number that fits the width
 unfoldable pub is_placeable : Width → List ℕ → Result (Unit {0}) TextErr
 is_placeable width text =
     if names_label width text then Ok tt else and_then (number_of_width width text) (λ z. Ok tt)

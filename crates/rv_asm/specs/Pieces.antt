@@ -1,4 +1,4 @@
--- What an item places, once the labels' values are known: instructions, and bytes.
+-- What an item places when the labels' values are known: instructions, and bytes.
 use Rattle.std.specs.Prelude.{ℕ, ℤ, pos, Result, Ok, Err, List, [], ◌∷◌, ◌++◌, replicate, if◌then◌else◌}
 use Rattle.std.specs.Int.{bytes_low_first}
 use Rattle.rv_inst.specs.Words.{word_difference}
@@ -22,11 +22,11 @@ pub data Piece : Type 0 where
   Word : Instr → Piece
   Bytes : List ℕ → Piece
 
--- the value of a label, or a refusal where it is not defined
+-- the value of a label, or a refusal if it is not defined
 abbrev pub label_value : List LabelView → List ℕ → Result ℕ AsmKind
 label_value labels name = needed NoLabel (value_of_label labels name)
 
--- the instruction over a distance, or a refusal where that is too far
+-- the instruction over a distance, or a refusal if the distance is too far
 abbrev pub nearby : Result Instr TextErr → Result Instr AsmKind
 nearby (Ok i) = Ok i
 nearby (Err (OutOfRange z)) = Err (TooFar z)
@@ -37,7 +37,7 @@ unfoldable pub near_instr : List LabelView → ℕ → Jump → List ℕ → Res
 near_instr labels pc jump label =
     and_then (label_value labels label) (λ v. nearby (aimed jump (distance_of (pos v) pc)))
 
--- the number that an operand stands for
+-- the number that an operand denotes
 unfoldable pub operand_value : List LabelView → Width → List ℕ → Result ℤ AsmKind
 operand_value labels width operand =
     if names_label width operand then and_then (label_value labels operand) (λ v. Ok (pos v))

@@ -30,8 +30,8 @@ unfoldable pub place_after : SectionPlace → SourceItem → SectionPlace
 place_after place (Section in_text) = record place { in_text = in_text }
 place_after place item = grown place (size_of item)
 
--- the item may be placed there: instructions only in the text at a multiple of 4, and the section is then at most
--- 1,048,576 bytes long
+-- the item may be placed there: instructions only in the text at a multiple of 4; and with the item the section is at
+-- most 1,048,576 bytes long
 unfoldable pub fits_at : SectionPlace → SourceItem → Result (Unit {0}) AsmKind
 fits_at place item =
     if is_code item && (not place.in_text || not (section_address place % 4 == 0)) then Err Misplaced

@@ -1,4 +1,4 @@
--- What each pseudo-instruction stands for (RISC-V Assembly Programmer's Manual, "Assembler Pseudoinstructions").
+-- The meaning of each pseudo-instruction (RISC-V Assembly Programmer's Manual, "Assembler Pseudoinstructions").
 use Rattle.std.specs.Prelude.{ℕ, ◌+◌, ◌*◌, ◌/◌, ◌%◌, ◌^◌, ◌==◌, ◌&&◌, ℤ, pos, negsuc, int_le, Bool, Result, Ok, List, if◌then◌else◌}
 use Rattle.std.specs.Int.{int_rem_euclid}
 use Rattle.std.specs.Int.RustNames.{unsigned_abs}
@@ -32,7 +32,7 @@ word_modulo z = unsigned_abs (int_rem_euclid z (pos (2 ^ 32)))
 abbrev pub addi : ℕ → ℕ → ℤ → Instr
 addi rd rs imm = instr.OpImm immop.Add rd rs imm
 
--- the upper twenty bits for a word, chosen so that the rest is from -2048 to 2047
+-- the upper twenty bits of a word, rounded so that the rest is from -2048 to 2047
 abbrev pub upper_part : ℕ → ℕ
 upper_part v = (v + 2048) / 4096 % 2 ^ 20
 
@@ -56,7 +56,7 @@ unfoldable pub reaching : Far → ℕ → SourceItem
 reaching (far.Address rd) v = Double (instr.Auipc rd (upper_part v)) (addi rd rd (lower_part v))
 reaching far.Call v = Double (instr.Auipc 1 (upper_part v)) (instr.Jalr 1 1 (lower_part v))
 
--- the same from an address to the target of an operand: a label, or a number that is the address
+-- the same from an address to the target of an operand: a label, or a number, which is then the address
 unfoldable pub reached : Far → ℕ → List ℕ → Result SourceItem TextErr
 reached f pc operand =
     if begins_name operand then Ok (Distant f operand)
@@ -93,7 +93,7 @@ register_pair text =
     and_then (register_in_text (operand_at text 0)) (λ rd.
     and_then (register_in_text (operand_at text 1)) (λ rs. Ok (rd, rs))))
 
--- what a pseudo-instruction at an address stands for
+-- the meaning of a pseudo-instruction at an address
 unfoldable pub pseudo_read : Pseudo → ℕ → List ℕ → Result SourceItem TextErr
 pseudo_read pseudo.Nop pc text = and_then (count_is 0 text) (λ u. Ok (Single (addi 0 0 (pos 0))))
 pseudo_read pseudo.Li pc text = load_immediate text

@@ -1,4 +1,4 @@
--- What a statement stands for: a directive, a pseudo-instruction or an instruction (RISC-V Assembly Programmer's
+-- The meaning of a statement: a directive, a pseudo-instruction or an instruction (RISC-V Assembly Programmer's
 -- Manual).
 use Rattle.std.specs.Prelude.{ℕ, ◌-◌, ◌%◌, ◌^◌, ◌==◌, pos, Bool, true, false, Option, Some, None, Result, Ok, Err, List, length, codes, nat_eq, if◌then◌else◌}
 use Rattle.std.specs.List.{starts_with}
@@ -37,7 +37,7 @@ numbers_read width text =
     if operand_count text == 0 then Err (WrongCount 0 1)
     else and_then (are_placeable width (operand_texts text)) (λ u. Ok (Numbers width (operand_texts text)))
 
--- one number from 0 to the greatest
+-- one number from 0 to the maximum
 unfoldable pub one_number : ℕ → List ℕ → Result ℕ TextErr
 one_number greatest text =
     and_then (count_is 1 text) (λ u.
@@ -47,11 +47,11 @@ one_number greatest text =
 abbrev pub padding : ℕ → ℕ → ℕ
 padding address size = (size - address % size) % size
 
--- a string that makes up the text, and whether a zero follows
+-- a text that is a string, and whether a zero follows
 unfoldable pub string_read : Bool → List ℕ → Result SourceItem AsmKind
 string_read zero text = and_then (needed BadString (string_of (trimmed text))) (λ bytes. Ok (Chars bytes zero))
 
--- what a directive at an address stands for
+-- the meaning of a directive at an address
 unfoldable pub directive_read : Directive → ℕ → List ℕ → Result SourceItem AsmKind
 directive_read directive.Text pc text = as_text (and_then (count_is 0 text) (λ u. Ok (Section true)))
 directive_read directive.Data pc text = as_text (and_then (count_is 0 text) (λ u. Ok (Section false)))
@@ -67,7 +67,7 @@ abbrev pub targeted : ℕ → LineReading → Result SourceItem TextErr
 targeted pc (WholeOf i) = Ok (Single i)
 targeted pc (AimedAt jump operand) = jumped jump pc operand
 
--- what an instruction at an address stands for
+-- the meaning of an instruction at an address
 unfoldable pub instruction_read : Mnemonic → ℕ → List ℕ → Result SourceItem TextErr
 instruction_read mnemonic pc text = and_then (statement_by mnemonic text) (targeted pc)
 
@@ -75,20 +75,20 @@ instruction_read mnemonic pc text = and_then (statement_by mnemonic text) (targe
 unfoldable pub unknown_name : List ℕ → AsmKind
 unknown_name name = if starts_with nat_eq name (codes ".") then UnknownDirective else Text UnknownName
 
--- what operands stand for after a name that may name a directive, a pseudo-instruction or an instruction: of several
--- the first counts
+-- the meaning of operands after a name that may name a directive, a pseudo-instruction or an instruction: if it names
+-- several, the first counts
 abbrev pub meaning_after_name : Option Directive → Option Pseudo → Option Mnemonic → List ℕ → ℕ → List ℕ → Result SourceItem AsmKind
 meaning_after_name (Some directive) p m name pc text = directive_read directive pc text
 meaning_after_name None (Some pseudo) m name pc text = as_text (pseudo_read pseudo pc text)
 meaning_after_name None None (Some mnemonic) name pc text = as_text (instruction_read mnemonic pc text)
 meaning_after_name None None None name pc text = Err (unknown_name name)
 
--- what operands stand for after a name
+-- the meaning of operands after a name
 unfoldable pub named_read : List ℕ → ℕ → List ℕ → Result SourceItem AsmKind
 named_read name pc text =
     meaning_after_name (directive_named name) (pseudo_named name) (mnemonic_named name) name pc text
 
--- what a statement at an address stands for
+-- the meaning of a statement at an address
 unfoldable pub statement_read : ℕ → List ℕ → Result SourceItem AsmKind
 statement_read pc text =
     if length (trimmed text) == 0 then Ok Nothing

@@ -14,7 +14,7 @@ is_letter byte = nat_le 65 byte && nat_le byte 90 || nat_le 97 byte && nat_le by
 unfoldable pub is_name_start : ℕ → Bool
 is_name_start byte = is_letter byte || byte == 95 || byte == 46 || byte == 36
 
--- and goes on with these and digits
+-- and continues with these and digits
 unfoldable pub is_name_byte : ℕ → Bool
 is_name_byte byte = is_name_start byte || is_digit byte
 
@@ -48,11 +48,11 @@ comment_at quote [] = 0
 comment_at quote (byte ∷ rest) =
     if is_outside quote && byte == 35 then 0 else 1 + comment_at (quote_after quote byte) rest
 
--- the text of a line before its comment, without the blanks around it
+-- the text of a line before its comment, without surrounding blanks
 unfoldable pub said : List ℕ → List ℕ
 said line = trimmed (take (comment_at Outside line) line)
 
--- the text begins with a label: a name, and right after it `:`
+-- the text begins with a label: a name, immediately followed by `:`
 unfoldable pub has_label : List ℕ → Bool
 has_label text = begins_name text && starts_with nat_eq (drop (name_length text) text) (codes ":")
 
@@ -60,6 +60,6 @@ has_label text = begins_name text && starts_with nat_eq (drop (name_length text)
 unfoldable pub label_in : List ℕ → Option (List ℕ)
 label_in text = if has_label text then Some (take (name_length text) text) else None
 
--- the statement of a text: what follows its label, or the whole text where it has no label
+-- the statement of a text: what follows its label, or the whole text if it has no label
 unfoldable pub statement_in : List ℕ → List ℕ
 statement_in text = if has_label text then drop (name_length text + 1) text else text

@@ -11,7 +11,7 @@ use Rattle.rv_asm.specs.Strings.{string_of}
 use Rattle.rv_asm.specs.Operands.{operand_texts}
 use Rattle.rv_asm.specs.Items.{SourceItem, Nothing, Section, Export, Single, Double, Near, Distant, Numbers, Chars, Zeros}
 
--- an item, with the texts that it keeps
+-- an item with the texts that it contains
 abbrev pub item_view : Read → SourceItem
 item_view read.Nothing = Nothing
 item_view (read.Section in_text) = Section in_text
@@ -37,8 +37,8 @@ abbrev pub FarFits : Far → Type 0
 FarFits (far.Address rd) = IsRegister rd
 FarFits far.Call = Unit {0}
 
--- the fields of an instruction are in range, the text of a string is one, and texts and zeros are at most as long as a
--- source may be
+-- the fields of an instruction are in range, the text of a string is a string, and texts and zeros are at most as long
+-- as a source may be
 abbrev pub IsSoundStatement : Read → Type 0
 IsSoundStatement (read.Single i) = Fits i
 IsSoundStatement (read.Double i j) = Fits i × Fits j

@@ -20,7 +20,7 @@ pub record AreSized (sections : Sections) : Type 0 where
   pub data_section : pieces_size sections.data_pieces ≡ sections.place.data_len
   pub place : IsPlaceInLimits sections.place
 
--- this holds of the sections that a source stands for
+-- this holds for the sections that a source represents
 abbrev pub IsSized : Result Sections AsmErr → Type 0
 IsSized (Ok sections) = AreSized sections
 IsSized (Err e) = Unit {0}

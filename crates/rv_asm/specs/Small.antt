@@ -8,12 +8,12 @@ use Rattle.rv_asm.specs.Labels.{LabelView}
 abbrev pub HasNoNul : List ℕ → Type 0
 HasNoNul name = All (λ byte. byte ≢ 0) name
 
--- the names of labels, one after the other
+-- the names of labels, one after another
 abbrev pub joined_names : List LabelView → List ℕ
 joined_names labels = flat_map (λ label. label.name) labels
 
 -- at most 1,048,576 bytes of text and of data, at most 524,288 labels, and names without NUL of at most 1,048,576 bytes
--- in all
+-- in total
 pub record IsSmallObject (object : Object) : Type 0 where
   pub text : length object.text_bytes ≤ 1048576
   pub data_section : length object.data_bytes ≤ 1048576

@@ -3,7 +3,8 @@ use Rattle.std.specs.Prelude.{ℕ, ◌==◌, Bool, true, false, Option, Some, No
 use Rattle.std.specs.List.{starts_with}
 use Rattle.std.specs.Str.{bytes_eq}
 
--- the byte that `\` and this byte stand for: `\n`, `\t`, `\\`, `\"` and `\0`
+-- the byte that `\` and this byte denote: `
+-- `, `\t`, `\\`, `\"` and `\0`
 abbrev pub escapes : ℕ → Option ℕ
 escapes byte =
     if byte == 110 then Some 10
@@ -13,12 +14,13 @@ escapes byte =
     else if byte == 48 then Some 0
     else None
 
--- the byte before the bytes, where both exist
+-- the byte before the bytes, if both exist
 abbrev pub onto : Option ℕ → Option (List ℕ) → Option (List ℕ)
 onto (Some byte) (Some bytes) = Some (byte ∷ bytes)
 onto _ _ = None
 
--- the bytes of a string, from after its first `"` up to its last, at the end of the text; `escaped` right after a `\`
+-- the bytes of a string, from after its first `"` up to its last, at the end of the text; `escaped` immediately after a
+-- `\`
 abbrev pub string_from : (escaped : Bool) → List ℕ → Option (List ℕ)
 string_from escaped [] = None
 string_from true (byte ∷ rest) = onto (escapes byte) (string_from false rest)
@@ -27,10 +29,10 @@ string_from false (byte ∷ rest) =
     else if byte == 34 then if length rest == 0 then Some [] else None
     else onto (Some byte) (string_from false rest)
 
--- the bytes of a string that ends here: none, where only its last `"` is left of the text
+-- the bytes of a string that ends here: none, if only its last `"` is left of the text
 abbrev pub end_of_string : List ℕ → Option (List ℕ)
 end_of_string text = if bytes_eq text (codes "\"") then Some [] else None
 
--- the bytes of the string that makes up a text
+-- the bytes of the string that the text consists of
 unfoldable pub string_of : List ℕ → Option (List ℕ)
 string_of text = if starts_with nat_eq text (codes "\"") then string_from false (drop 1 text) else None

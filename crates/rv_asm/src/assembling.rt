@@ -62,7 +62,7 @@ fn assemble_lines(alloc: Global, source: &[u8]) -> Result<Object, AsmErr>
     })
 }
 
-/// The program that a source in the assembly language stands for.
+/// The program that a source in the assembly language represents.
 ///
 /// The first refusal is returned. The tests are: the source's length; the first line that is not ASCII; the first line
 /// that fails by itself; the first line that fails with all labels known, because a label is never defined or is too

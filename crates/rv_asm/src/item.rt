@@ -1,4 +1,4 @@
-//! What a statement stands for, before the labels' values are known.
+//! The meaning of a statement, before the labels' values are known.
 
 ghost use Rattle.std.specs.Prelude.{◌≡◌, ◌≤◌, ◌<◌, ◌^◌, ◌+◌, length};
 ghost use Rattle.rv_asm.specs.Operands.{operand_texts};
@@ -19,11 +19,11 @@ pub enum Far {
     Call,
 }
 
-/// What a statement stands for.
+/// The meaning of a statement.
 #[derive(Clone, Copy)]
 pub enum SourceItem<'a> {
     Nothing,
-    /// What follows goes into the text section where this is set, otherwise into the data.
+    /// What follows goes into the text section if this is set, otherwise into the data.
     Section(bool),
     /// The label of this name is exported.
     Export(&'a [u8]),
@@ -33,7 +33,7 @@ pub enum SourceItem<'a> {
     Near(Jump, &'a [u8]),
     /// The same to any distance, or a label's address.
     Distant(Far, &'a [u8]),
-    /// Numbers, which may be labels where they are words.
+    /// Numbers, which may be labels if they are words.
     Numbers(Width, &'a [u8]),
     /// A string, and whether a zero follows.
     Chars(&'a [u8], bool),

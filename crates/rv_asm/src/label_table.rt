@@ -87,7 +87,7 @@ impl LabelTable {
         }
     }
 
-    /// The labels alone.
+    /// The labels without the map.
     pub fn into_labels(self) -> Labels
         ensures { result ≡ self }
     {

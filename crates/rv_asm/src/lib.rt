@@ -1,4 +1,4 @@
-//! The assembler: a source in the assembly language of RV32IM, and the object that it stands for.
+//! The assembler: a source in the assembly language of RV32IM, and the object that it represents.
 #![tactic(auto)]
 
 mod assembling;

@@ -35,8 +35,8 @@ impl Bytes {
     }
 }
 
-/// A program: the bytes of its text, which starts at 0x10000, and of its data, which starts at
-/// 0x200000; its labels in the order of their definition; and the address where it is entered.
+/// A program: the bytes of its text, which starts at 0x10000, and of its data, which starts at 0x200000; its labels in
+/// the order of their definition; and its entry point.
 #[derive(Drop)]
 pub struct Object {
     pub text_bytes: Bytes,

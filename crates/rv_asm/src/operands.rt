@@ -10,7 +10,7 @@ use crate::operations::Width;
 use crate::scanning::begins_name;
 use rv_text::{TextErr, count_operands, cut_at, find_byte, read_number, trim};
 
-/// `WrongCount` where a text has another number of operands.
+/// `WrongCount` if a text has another number of operands.
 #[tactic(auto, unfolding(crate::specs::Operands::count_is))]
 pub fn expect_count(wanted: u32, text: &[u8]) -> Result<(), TextErr>
     ensures { result ≡ count_is wanted text.now }
@@ -49,7 +49,7 @@ pub fn number_of_width(width: Width, text: &[u8]) -> Result<i64, TextErr>
     }
 }
 
-/// Whether an operand stands for a label.
+/// Whether an operand names a label.
 pub fn names_label(width: Width, text: &[u8]) -> bool
     ensures { result ≡ names_label width text.now }
 {
@@ -69,7 +69,7 @@ fn check_placeable(width: Width, text: &[u8]) -> Result<(), TextErr>
     Ok(())
 }
 
-/// The operand at the start of a text, and the text after its comma, where there is one.
+/// The operand at the start of a text, and the text after its comma, if there is one.
 #[tactic(auto, using(crate::proofs::Splits::commas))]
 pub fn cut_operand(text: &[u8]) -> (&[u8], Option<&[u8]>)
     ensures operands { operand_texts text.now ≡ result.0.now ∷ operands_left (option_map (λ rest. rest.now) result.1) }

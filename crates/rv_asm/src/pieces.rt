@@ -1,4 +1,4 @@
-//! What an item places, once the labels' values are known.
+//! What an item places when the labels' values are known.
 #![tactic(auto, unfolding(crate::specs::Pieces::near_instr, crate::specs::Pieces::operand_value, crate::specs::Pieces::pieces_of), using(crate::proofs::Spelt::spelling))]
 
 ghost use Rattle.std.specs.Prelude.{◌≡◌, ◌++◌, ◌∷◌, [], ◌<◌, ◌^◌, Ok, IfOk, IfErr, OnOk, IsSome, unwrap_or, replicate, if◌then◌else◌};
@@ -103,7 +103,7 @@ fn distant_bytes(
     double(alloc, i, j)
 }
 
-/// The number that an operand stands for.
+/// The number that an operand denotes.
 fn operand_value(labels: &LabelTable, width: Width, operand: &[u8]) -> Result<i64, AsmKind>
     ensures { result ≡ operand_value labels.now width operand.now }
 {
@@ -143,7 +143,7 @@ fn numbers(
     Ok(bytes)
 }
 
-/// The bytes of a string, and a zero where one follows.
+/// The bytes of a string, and a zero if one follows.
 fn chars(alloc: Global, text: &[u8], zero: bool) -> Result<Vec<u8>, AsmKind>
     requires { IsSome (string_of text.now) }
     ensures ok { IfOk result (λ bytes. bytes.items ≡ unwrap_or (string_of text.now) [] ++ (if zero then 0 ∷ [] else [])) }

@@ -9,7 +9,7 @@ ghost use Rattle.rv_asm.specs.Seen.{item_view, IsSoundStatement};
 use crate::item::{SourceItem, is_code, size_of};
 use crate::refusal::AsmKind;
 
-/// The greatest number of bytes of a source, of the text and of the data.
+/// The maximum number of bytes of a source, of the text and of the data.
 pub const MOST: usize = 0x10_0000;
 
 /// The position of a line: its section, and the lengths of both sections before it.
@@ -86,7 +86,7 @@ impl SectionPlace {
         }
     }
 
-    /// `Misplaced` where code is in the data or at an address that 4 does not divide, and `TooLarge` where the item
+    /// `Misplaced` if code is in the data or at an address that is not a multiple of 4, and `TooLarge` if the item
     /// would make its section too long.
     pub fn check(self, item: SourceItem<'_>) -> Result<(), AsmKind>
         requires place { IsPlaceInLimits self }

@@ -1,4 +1,4 @@
-//! What each pseudo-instruction stands for.
+//! The meaning of each pseudo-instruction.
 #![tactic(auto, unfolding(crate::specs::Pseudos::word_modulo, crate::specs::Pseudos::loading, crate::specs::Pseudos::reaching, crate::specs::Pseudos::reached, crate::specs::Pseudos::jumped, crate::specs::Pseudos::register_pair, crate::specs::Pseudos::load_immediate, crate::specs::Pseudos::address_read, crate::specs::Pseudos::branch_read))]
 
 ghost use Rattle.std.specs.Prelude.{◌≡◌, ◌<◌, ◌≤◌, ◌^◌, ◌-◌, ◌*◌, ◌%◌, ◌≤ℤ◌, ◌<ℤ◌, negsuc, pos, Ok, Err, IfOk};
@@ -33,7 +33,7 @@ fn addi(rd: u8, rs1: u8, imm: i32) -> Instr
     }
 }
 
-/// The upper twenty bits for a word, chosen so that the rest is from -2048 to 2047.
+/// The upper twenty bits of a word, rounded so that the rest is from -2048 to 2047.
 fn upper_part(word: u32) -> u32
     ensures value { result ≡ upper_part word }
     ensures field { result < 2 ^ 20 }
@@ -95,7 +95,7 @@ pub fn reaching(far: Far, distance: u32) -> (Instr, Instr)
     }
 }
 
-/// The same from an address to the target of an operand: a label, or a number that is the address.
+/// The same from an address to the target of an operand: a label, or a number, which is then the address.
 fn reached(far: Far, pc: u32, operand: &[u8]) -> Result<SourceItem<'_>, TextErr>
     requires { FarFits far }
     ensures item { ReadsItem result (reached far pc operand.now) }
@@ -161,7 +161,7 @@ fn branch_zero(cond: Cond, pc: u32, text: &[u8]) -> Result<SourceItem<'_>, TextE
     jumped(Jump::Branch(cond, rs, 0), pc, operand(text, 1))
 }
 
-/// What a pseudo-instruction at an address stands for.
+/// The meaning of a pseudo-instruction at an address.
 #[tactic(auto, unfolding(crate::specs::Pseudos::pseudo_read))]
 pub fn read_pseudo(pseudo: Pseudo, pc: u32, text: &[u8]) -> Result<SourceItem<'_>, TextErr>
     ensures item { ReadsItem result (pseudo_read pseudo pc text.now) }

@@ -1,4 +1,4 @@
-//! What a statement stands for.
+//! The meaning of a statement.
 #![tactic(auto, unfolding(crate::specs::Reading::export_read, crate::specs::Reading::numbers_read, crate::specs::Reading::one_number, crate::specs::Reading::string_read, crate::specs::Reading::instruction_read, crate::specs::Reading::unknown_name))]
 
 ghost use Rattle.std.specs.Prelude.{◌≡◌, ◌≤◌, ◌<◌, ◌^◌, pos, ◌≤ℤ◌, Ok, Err, IfOk, length};
@@ -56,7 +56,7 @@ fn read_numbers(width: Width, text: &[u8]) -> Result<SourceItem<'_>, AsmKind>
     Ok(SourceItem::Numbers(width, text))
 }
 
-/// The one operand of a directive: a number from 0 to `greatest`.
+/// The only operand of a directive: a number from 0 to `greatest`.
 fn one_number(greatest: i32, text: &[u8]) -> Result<u32, TextErr>
     requires { pos 0 ≤ℤ greatest }
     ensures number { result ≡ one_number (unsigned_abs greatest) text.now }
@@ -84,7 +84,7 @@ fn read_space(text: &[u8]) -> Result<SourceItem<'_>, AsmKind>
     Ok(SourceItem::Zeros(one_number(0x10_0000, text)?))
 }
 
-/// Zeros up to the next multiple of 2^n, where the operand is n.
+/// Zeros up to the next multiple of 2^n, for the operand n.
 fn read_alignment(pc: u32, text: &[u8]) -> Result<SourceItem<'_>, AsmKind>
     ensures item { ReadsItem result (as_text (and_then (one_number 12 text.now) (λ n. Ok (Zeros (padding pc (2 ^ n)))))) }
     ensures sound { IfOk result (λ item. IsSoundStatement item) }
@@ -105,7 +105,7 @@ fn read_string(zero: bool, text: &[u8]) -> Result<SourceItem<'_>, AsmKind>
     }
 }
 
-/// What a directive at an address stands for.
+/// The meaning of a directive at an address.
 #[tactic(auto, unfolding(crate::specs::Reading::directive_read))]
 fn read_directive(directive: Directive, pc: u32, text: &[u8]) -> Result<SourceItem<'_>, AsmKind>
     requires { length text.now ≤ 1048576 }
@@ -124,7 +124,7 @@ fn read_directive(directive: Directive, pc: u32, text: &[u8]) -> Result<SourceIt
     }
 }
 
-/// What an instruction at an address stands for.
+/// The meaning of an instruction at an address.
 #[tactic(auto, unfolding(crate::specs::Reading::instruction_read), using(crate::proofs::Statements::statements))]
 fn read_instruction(mnemonic: Mnemonic, pc: u32, text: &[u8]) -> Result<SourceItem<'_>, TextErr>
     ensures item { ReadsItem result (instruction_read mnemonic pc text.now) }
@@ -146,7 +146,7 @@ fn unknown(name: &[u8]) -> AsmKind
     }
 }
 
-/// What operands stand for after a name.
+/// The meaning of operands after a name.
 #[tactic(auto, unfolding(crate::specs::Reading::named_read))]
 fn read_named<'a>(name: &[u8], pc: u32, text: &'a [u8]) -> Result<SourceItem<'a>, AsmKind>
     requires { length text.now ≤ 1048576 }
@@ -165,7 +165,7 @@ fn read_named<'a>(name: &[u8], pc: u32, text: &'a [u8]) -> Result<SourceItem<'a>
     }
 }
 
-/// What a statement at an address stands for.
+/// The meaning of a statement at an address.
 #[tactic(auto, unfolding(crate::specs::Reading::statement_read), using(crate::proofs::Shorter::parts))]
 pub fn read_statement(pc: u32, text: &[u8]) -> Result<SourceItem<'_>, AsmKind>
     requires { length text.now ≤ 1048576 }

@@ -24,14 +24,13 @@ pub enum AsmKind {
     NotAscii,
     /// A string is expected, but the text is not exactly one, has no end, or has an unknown escape.
     BadString,
-    /// An instruction is in the data, or at an address that 4 does not divide.
+    /// An instruction is in the data, or at an address that is not a multiple of 4.
     Misplaced,
-    /// There was no memory.
+    /// There was not enough memory.
     NoMemory,
 }
 
-/// Why a source is refused, with the number of the line, counted from 1; it is 0 where the source as
-/// a whole is refused.
+/// Why a source is refused, with the line number, counted from 1. It is 0 if the source as a whole is refused.
 #[derive(Clone, Copy, PartialEq, Eq)]
 pub struct AsmErr {
     pub line: u32,

@@ -101,7 +101,7 @@ fn comment_at(line: &[u8]) -> usize
     line.len()
 }
 
-/// The text of a line before its comment, without the blanks around it.
+/// The text of a line before its comment, without surrounding blanks.
 #[tactic(auto, unfolding(crate::specs::Scanning::said), using(crate::proofs::Shorter::parts))]
 pub fn said(line: &[u8]) -> &[u8]
     ensures text { result.now ≡ said line.now }
@@ -130,7 +130,7 @@ pub fn label_in(text: &[u8]) -> Option<&[u8]>
     }
 }
 
-/// The statement of a text: what follows its label, or the whole text where it has no label.
+/// The statement of a text: what follows its label, or the whole text if it has no label.
 #[tactic(auto, unfolding(crate::specs::Scanning::statement_in, crate::specs::Scanning::has_label))]
 pub fn statement_in(text: &[u8]) -> &[u8]
     ensures statement { result.now ≡ statement_in text.now }

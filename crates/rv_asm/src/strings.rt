@@ -21,7 +21,7 @@ fn escape(byte: u8) -> Option<u8>
     }
 }
 
-/// The byte that the start of a text stands for after a `\` in a string, and the text after it.
+/// The byte that the start of a text denotes after a `\` in a string, and the text after it.
 #[tactic(auto)]
 fn cut_escaped(text: &[u8]) -> Option<(u8, &[u8])>
     ensures cut { MatchOption result (string_from true text.now ≡ None)
@@ -34,8 +34,8 @@ fn cut_escaped(text: &[u8]) -> Option<(u8, &[u8])>
     }
 }
 
-/// The byte of an open string that the start of a text stands for, and the text after it; or `None` where the text does
-/// not begin with a byte of the string.
+/// The byte of an open string that the start of a text denotes, and the text after it; or `None` if the text does not
+/// begin with a byte of the string.
 #[tactic(auto, using(crate::proofs::Chars::quote_alone))]
 fn cut_char(text: &[u8]) -> Option<(u8, &[u8])>
     ensures cut { MatchOption result (string_from false text.now ≡ end_of_string text.now)
@@ -67,7 +67,7 @@ fn open_string_len(text: &[u8]) -> Option<usize>
     (rest == b"\"".as_slice()).then_some(count)
 }
 
-/// The length of the string that makes up a text, or `None` where the text is not a string.
+/// The length of the string that the text consists of, or `None` if the text is not a string.
 pub fn string_len(text: &[u8]) -> Option<usize>
     ensures length { result ≡ option_map (λ bytes. length bytes) (string_of text.now) }
     ensures within { IfSome result (λ count. count ≤ length text.now) }
@@ -90,7 +90,7 @@ fn push_open_string(bytes: &mut Vec<u8>, text: &[u8]) -> Result<bool, AllocError
     Ok(rest == b"\"".as_slice())
 }
 
-/// Appends the bytes of the string that makes up a text.
+/// Appends the bytes of the string that the text consists of.
 pub fn push_string(bytes: &mut Vec<u8>, text: &[u8]) -> Result<(), AllocError>
     requires { IsSome (string_of text.now) }
     ensures { OnOk result (bytes.new.items ≡ bytes.old.items ++ unwrap_or (string_of text.now) []) }

@@ -1,4 +1,4 @@
--- The fields of a word are in range, and so is the instruction that is read off it.
+-- The fields of a word are in range, and so is the instruction that is read from it.
 use Rattle.std.proofs.Common.{◌≡◌, ◌^◌, ℕ, ◌+◌, ◌<◌, arith, refl}
 use Rattle.std.specs.Prelude.{IfSome, pos, ◌%◌}
 use Rattle.std.proofs.lemmas.Bool.Decides.{nat_tests}
@@ -33,7 +33,7 @@ high12-lt : (w : ℕ) → high12 w < 2 ^ 12
 unfolding high12
 high12-lt w = omega arith
 
--- a signed reading is within its half, and even where the number is
+-- a signed reading is within its half, and even if the number is
 signed_below-within : (half n : ℕ) → n < half + half → IsWithin half (signed_below half n)
 signed_below-within half n h = grind (arith, ints, nat_tests)
 
@@ -80,7 +80,7 @@ ruleset bounds = (
   imm_j-even,
 )
 
--- what is read off a word fits
+-- what is read from a word fits
 pub decoded_fits : (w : ℕ) → IfSome (decoded w) (λ i. Fits i)
 unfolding decoded decoded_jalr decoded_branch decoded_load decoded_store decoded_imm decoded_op decoded_fence decoded_system
 decoded_fits w = grind (arith, nat_tests, bounds)

@@ -1,4 +1,4 @@
--- No instruction has two words below 2 ^ 32.
+-- No instruction has two different words below 2 ^ 32.
 use Rattle.std.proofs.Common.{◌≡◌, ◌^◌, ℕ, ◌+◌, ◌<◌, arith, sym, ◌∙◌, ℤ}
 use Rattle.std.specs.Prelude.{pos}
 use Rattle.std.proofs.lemmas.Bool.Decides.{nat_tests}
@@ -15,7 +15,7 @@ use Rattle.rv_inst.specs.Fields.{opcode, rd_of, funct3, rs1_of, rs2_of, funct7, 
 use Rattle.rv_inst.specs.Formats.{IsRType, IsIType, IsShiftType, IsFenceType, IsSType, IsBType, IsUType, IsJType}
 use Rattle.rv_inst.specs.Encoding.{Encodes}
 
--- a word is its fields
+-- a word is determined by its fields
 fields-inj : (v w : ℕ) → v < 2 ^ 32 → w < 2 ^ 32 → opcode v ≡ opcode w → rd_of v ≡ rd_of w → funct3 v ≡ funct3 w → rs1_of v ≡ rs1_of w → rs2_of v ≡ rs2_of w →
     funct7 v ≡ funct7 w → v ≡ w
 unfolding opcode rd_of funct3 rs1_of rs2_of funct7
@@ -69,7 +69,7 @@ unfolding opcode rd_of imm_j
 j_type-inj v w a b g h = let k : bits_j v ≡ bits_j w = signed_below-inj (2 ^ 20) (bits_j v) (bits_j w) (omega arith) (omega arith) (sym g.imm_is ∙ h.imm_is) in
     omega arith
 
--- two words that stand for one instruction are one word
+-- two words that encode the same instruction are the same
 pub Encodes-inj : (v w : ℕ) (i : Instr) → v < 2 ^ 32 → w < 2 ^ 32 → Encodes v i → Encodes w i → v ≡ w
 Encodes-inj v w (Lui rd imm) a b g h = u_type-inj v w a b g h
 Encodes-inj v w (Auipc rd imm) a b g h = u_type-inj v w a b g h

@@ -1,4 +1,4 @@
--- A word is made up of its six fields, and the immediates are read from them.
+-- A word consists of its six fields, and the immediates are read from them.
 use Rattle.std.proofs.Common.{◌≡◌, ℕ, ◌+◌, ◌*◌, ◌/◌, ◌%◌, ◌<◌, ◌≤◌, ◌^◌, arith, ap, ◌∙◌, bit_or}
 use Rattle.std.proofs.lemmas.Nat.{or_shifted}
 use Rattle.std.specs.Prelude.{ℤ, pos, negsuc, bit_and, FitsSigned}
@@ -86,7 +86,7 @@ unfolding imm_j funct7 funct3 rs1_of rs2_of
 imm_j-fields w = signed_below-ap (2 ^ 20) (bits_j w) (bits 31 25 w / 2 ^ 6 * 2 ^ 20 + (bits 14 12 w + bits 19 15 w * 2 ^ 3) * 2 ^ 12 + bits 24 20 w % 2 * 2 ^ 11
     + bits 31 25 w % 2 ^ 6 * 2 ^ 5 + bits 24 20 w / 2 * 2) (omega arith)
 
--- the signed reading of the low bits of a number in range gives it back
+-- the signed reading of the low bits of a number in range is the number
 signed_12 : (z : ℤ) → IsWithin (2 ^ 11) z → signed_below (2 ^ 11) (cast_unsigned w32 z % 2 ^ 12) ≡ z
 signed_12 (pos n) h = grind (arith, ints, nat_tests)
 signed_12 (negsuc n) h = grind (arith, ints, nat_tests)
@@ -144,5 +144,5 @@ imm_j-packed w bs imm r v b p q x y =
     omega (arith, mask_3 (bs / 2 ^ 12), mask_5 (bs / 2 ^ 15), mask_4 (bs / 2), mask_1 (bs / 2 ^ 11), mask_1 (bs / 2 ^ 20), mask_6 (bs / 2 ^ 5)) in
     imm_j-fields w ∙ signed_below-ap (2 ^ 20) _ _ e ∙ signed_21 imm r
 
--- for the formats whose immediates are unsigned
+-- for the formats with unsigned immediates
 pub ruleset packing = (high12-fields, imm_u-fields, mask_3, mask_5, mask_7)

@@ -1,4 +1,4 @@
--- The table of encodings and the reading of a word say the same.
+-- The table of encodings and the reading of a word agree.
 use Rattle.std.proofs.Common.{◌≡◌, ℕ, arith, refl, Some, None}
 use Rattle.std.specs.Prelude.{IfSome, IsTrue}
 use Rattle.std.proofs.lemmas.Bool.Decides.{nat_tests}
@@ -23,7 +23,7 @@ decoded-ebreak : decoded 0x00100073 ≡ Some Ebreak
 unfolding decoded decoded_system opcode
 decoded-ebreak = refl
 
--- a word that stands for an instruction of RV32I is read as that instruction
+-- a word that encodes an instruction of RV32I is read as that instruction
 pub decoded_complete : (w : ℕ) (i : Instr) → IsTrue (is_base i) → Encodes w i → decoded w ≡ Some i
 unfolding decoded decoded_jalr decoded_branch decoded_load decoded_store decoded_imm decoded_op decoded_fence
 decoded_complete w (Lui rd imm) b h = rw h.opcode_is (cc)
@@ -89,7 +89,7 @@ pub decoded_m_base : (w : ℕ) (i : Instr) → decoded w ≡ Some i → decoded_
 unfolding decoded_m
 decoded_m_base w i e = grind (arith, nat_tests, decoded-op_m)
 
--- a word that stands for an instruction is read as that instruction
+-- a word that encodes an instruction is read as that instruction
 pub decoded_m_complete : (w : ℕ) (i : Instr) → Encodes w i → decoded_m w ≡ Some i
 unfolding decoded_m decoded_mul
 decoded_m_complete w (Mul mulop.Mul rd rs1 rs2) h = rw (h.opcode_is, h.funct3_is, h.funct7_is) (cc)

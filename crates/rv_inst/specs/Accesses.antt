@@ -1,4 +1,4 @@
--- The memory access of a load or a store, and the value that a load makes of what it read (RISC-V Unprivileged ISA
+-- The memory access of a load or a store, and the value that a load computes from what it read (RISC-V Unprivileged ISA
 -- Manual, "RV32I Base Integer Instruction Set", Load and Store Instructions).
 use Rattle.std.specs.Prelude.{ℕ, Bool, ◌%◌, ◌^◌, true, false}
 use Rattle.rv_inst.specs.declared.instruction.LoadKind.{LoadKind}
@@ -16,7 +16,7 @@ abbrev pub is_load : Instr → Bool
 is_load (Load k rd rs1 imm) = true
 is_load _ = false
 
--- the bytes that a load reads
+-- how many bytes a load reads
 abbrev pub load_width : LoadKind → ℕ
 load_width load.Byte = 1
 load_width load.Half = 2
@@ -24,13 +24,13 @@ load_width load.Word = 4
 load_width load.ByteU = 1
 load_width load.HalfU = 2
 
--- the bytes that a store writes
+-- how many bytes a store writes
 abbrev pub store_width : StoreKind → ℕ
 store_width store.Byte = 1
 store_width store.Half = 2
 store_width store.Word = 4
 
--- the access of a load or a store whose sources are a and b; other instructions make no access, and get all zeros here
+-- the access of a load or a store whose sources are a and b; other instructions make no access, and give all zeros here
 unfoldable pub access_made : Instr → ℕ → ℕ → Access
 access_made (Load k rd rs1 imm) a b = record { addr = word_sum a (signed_word imm); width = load_width k; write = false; value = 0 }
 access_made (Store k rs1 rs2 imm) a b = record { addr = word_sum a (signed_word imm); width = store_width k; write = true; value = b }
@@ -45,7 +45,7 @@ load_value load.Word raw = raw
 load_value load.ByteU raw = raw % 2 ^ 8
 load_value load.HalfU raw = raw % 2 ^ 16
 
--- the value that a load writes; for any other instruction the number as it is
+-- the value that a load writes; for any other instruction the number itself
 unfoldable pub extended : Instr → ℕ → ℕ
 extended (Load k rd rs1 imm) raw = load_value k raw
 extended _ raw = raw

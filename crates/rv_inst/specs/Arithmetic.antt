@@ -1,4 +1,4 @@
--- What an instruction computes of its address and its sources (RISC-V Unprivileged ISA Manual, "RV32I Base Integer
+-- What an instruction computes from its address and its sources (RISC-V Unprivileged ISA Manual, "RV32I Base Integer
 -- Instruction Set", Integer Computational Instructions and Control Transfer Instructions).
 use Rattle.std.specs.Prelude.{ℕ, ◌*◌, ◌/◌, ◌%◌, ◌^◌, Bool, true, false, nat_lt, int_lt, if◌then◌else◌, bit_and, bit_or, bit_xor, ◌==◌, not}
 use Rattle.std.specs.Int.{int_shr}
@@ -13,7 +13,7 @@ use Rattle.rv_inst.specs.declared.classes.Class.TheVariants as class
 use Rattle.rv_inst.specs.Words.{word_sum, word_difference, signed, signed_word}
 use Rattle.rv_inst.specs.Operands.{register_op}
 
--- 1 where the test holds, else 0
+-- 1 if the test holds, otherwise 0
 abbrev pub truth_value : Bool → ℕ
 truth_value b = if b then 1 else 0
 
@@ -39,7 +39,7 @@ is_taken cond.Ge a b = not (int_lt (signed a) (signed b))
 is_taken cond.Ltu a b = nat_lt a b
 is_taken cond.Geu a b = not (nat_lt a b)
 
--- the classes whose instructions compute from their address and their sources alone
+-- the classes whose instructions compute only from their address and their sources
 abbrev pub is_arithmetic : Class → Bool
 is_arithmetic class.Add = true
 is_arithmetic class.Logic = true
@@ -59,8 +59,8 @@ alu_value (OpImm op rd rs1 imm) pc a b = op_value (register_op op) a (signed_wor
 alu_value (Op op rd rs1 rs2) pc a b = op_value op a b
 alu_value _ pc a b = 0
 
--- the address of the next instruction: the target of a jump or of a taken branch, else this instruction's address plus
--- 4; JALR clears bit 0
+-- the address of the next instruction: the target of a jump or of a taken branch, otherwise this instruction's address
+-- plus 4; JALR clears bit 0
 unfoldable pub next_pc : Instr → ℕ → ℕ → ℕ → ℕ
 next_pc (Jal rd imm) pc a b = word_sum pc (signed_word imm)
 next_pc (Jalr rd rs1 imm) pc a b = word_sum a (signed_word imm) / 2 * 2

@@ -1,4 +1,4 @@
--- The instruction of a word, read off its fields (RISC-V Unprivileged ISA Manual, "RV32/64G Instruction Set Listings":
+-- The instruction of a word, read from its fields (RISC-V Unprivileged ISA Manual, "RV32/64G Instruction Set Listings":
 -- RV32I, Zifencei, RV32M).
 use Rattle.std.specs.Prelude.{ℕ, pos, Option, Some, None, ◌==◌, ◌&&◌, ◌||◌, if◌then◌else◌, option_and_then}
 use Rattle.rv_inst.specs.declared.instruction.Cond.{Cond}
@@ -88,7 +88,7 @@ mul_op_at f3 =
     if f3 == 0b110 then Some mulop.Rem else
     if f3 == 0b111 then Some mulop.Remu else None
 
--- the function's value at what the option holds, where it holds something
+-- the function's value for the value of the option, if it has one
 abbrev pub option_map : {A B : Type 0} → (A → B) → Option A → Option B
 option_map f o = option_and_then (λ x. Some (f x)) o
 
@@ -108,7 +108,7 @@ decoded_load w = option_map (λ k. Load k (rd_of w) (rs1_of w) (imm_i w)) (load_
 unfoldable pub decoded_store : ℕ → Option Instr
 decoded_store w = option_map (λ k. Store k (rs1_of w) (rs2_of w) (imm_s w)) (store_at (funct3 w))
 
--- opcode 0010011: the operations with an immediate, shifts where funct3 is 001 or 101
+-- opcode 0010011: the operations with an immediate, which are shifts if funct3 is 001 or 101
 unfoldable pub decoded_imm : ℕ → Option Instr
 decoded_imm w =
     if (funct3 w == 0b001) || (funct3 w == 0b101)
@@ -131,7 +131,7 @@ decoded_system w =
     if w == 0x00000073 then Some Ecall else
     if w == 0x00100073 then Some Ebreak else None
 
--- the instruction of RV32I with FENCE.I that a word stands for
+-- the instruction of RV32I with FENCE.I that a word encodes
 unfoldable pub decoded : ℕ → Option Instr
 decoded w =
     if opcode w == 0b0110111 then Some (Lui (rd_of w) (imm_u w)) else
@@ -150,11 +150,11 @@ decoded w =
 unfoldable pub decoded_mul : ℕ → Option Instr
 decoded_mul w = option_map (λ op. Mul op (rd_of w) (rs1_of w) (rs2_of w)) (mul_op_at (funct3 w))
 
--- the instruction that a word stands for, with the M extension
+-- the instruction that a word encodes, with the M extension
 unfoldable pub decoded_m : ℕ → Option Instr
 decoded_m w = if (opcode w == 0b0110011) && (funct7 w == 0b0000001) then decoded_mul w else decoded w
 
--- the instruction of the set that a word stands for
+-- the instruction of the set that a word encodes
 unfoldable pub decoded_as : Isa → ℕ → Option Instr
 decoded_as Rv32i w = decoded w
 decoded_as Rv32im w = decoded_m w

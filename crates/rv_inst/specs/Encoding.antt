@@ -1,4 +1,4 @@
--- The encoding: which word stands for which instruction (RISC-V Unprivileged ISA Manual, "RV32/64G Instruction Set
+-- The encoding: which word encodes which instruction (RISC-V Unprivileged ISA Manual, "RV32/64G Instruction Set
 -- Listings": RV32I, Zifencei, RV32M).
 use Rattle.std.specs.Prelude.{◌≡◌, ℕ, Bool, true, false}
 use Rattle.rv_inst.specs.declared.instruction.Cond.TheVariants as cond
@@ -11,7 +11,7 @@ use Rattle.rv_inst.specs.declared.instruction.Instr.{Instr}
 use Rattle.rv_inst.specs.declared.instruction.Instr.TheVariants.{Lui, Auipc, Jal, Jalr, Branch, Load, Store, OpImm, Op, Fence, Ecall, Ebreak, FenceI, Mul}
 use Rattle.rv_inst.specs.Formats.{IsRType, IsIType, IsShiftType, IsFenceType, IsSType, IsBType, IsUType, IsJType}
 
--- the word stands for the instruction
+-- the word encodes the instruction
 abbrev pub Encodes : ℕ → Instr → Type 0
 Encodes w (Lui rd imm) = IsUType w 0b0110111 rd imm
 Encodes w (Auipc rd imm) = IsUType w 0b0010111 rd imm

@@ -58,7 +58,7 @@ bits_b w = bits 31 31 w * 2 ^ 12 + bits 7 7 w * 2 ^ 11 + bits 30 25 w * 2 ^ 5 + 
 unfoldable pub imm_b : ℕ → ℤ
 imm_b w = signed_below (2 ^ 12) (bits_b w)
 
--- the U-immediate: bits 31 to 12, which count times 2 ^ 12
+-- the U-immediate: bits 31 to 12, in units of 2 ^ 12
 unfoldable pub imm_u : ℕ → ℕ
 imm_u w = bits 31 12 w
 

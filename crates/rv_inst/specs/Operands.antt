@@ -82,7 +82,7 @@ sources_of Ebreak = (0, 0)
 sources_of (FenceI rd rs1 imm) = (0, 0)
 sources_of (Mul op rd rs1 rs2) = (rs1, rs2)
 
--- the destination register, 0 for none; an environment call answers in x10
+-- the destination register, 0 for none; an environment call returns its answer in x10
 abbrev pub dest_of : Instr → ℕ
 dest_of (Lui rd imm) = rd
 dest_of (Auipc rd imm) = rd

@@ -11,11 +11,11 @@ use Rattle.rv_inst.specs.declared.instruction.Instr.TheVariants.{Lui, Auipc, Jal
 abbrev pub IsRegister : ℕ → Type 0
 IsRegister r = r < 32
 
--- a signed number from minus `half` up to below `half`
+-- a signed number from minus `half` up to, but not including, `half`
 abbrev pub IsWithin : ℕ → ℤ → Type 0
 IsWithin half imm = (negsuc (half - 1) ≤ℤ imm) × (imm <ℤ pos half)
 
--- a signed number that 2 divides
+-- an even signed number
 abbrev pub IsEven : ℤ → Type 0
 IsEven imm = unsigned_abs imm % 2 ≡ 0
 
@@ -23,7 +23,7 @@ IsEven imm = unsigned_abs imm % 2 ≡ 0
 abbrev pub IsAmount : ℤ → Type 0
 IsAmount imm = (pos 0 ≤ℤ imm) × (imm <ℤ pos 32)
 
--- the immediate of an operation: an amount for a shift, else a 12-bit number
+-- the immediate of an operation: an amount for a shift, otherwise a 12-bit number
 abbrev pub IsImmediate : ImmOp → ℤ → Type 0
 IsImmediate immop.Sll imm = IsAmount imm
 IsImmediate immop.Srl imm = IsAmount imm

@@ -1,4 +1,4 @@
-//! The memory access of a load or a store, and the value that a load makes of what it read.
+//! The memory access of a load or a store, and the value that a load computes from what it read.
 #![tactic(auto, using(crate::proofs::Masks::masks), unfolding(crate::specs::Accesses::access_made, crate::specs::Accesses::load_value, crate::specs::Accesses::extended))]
 
 ghost use Rattle.std.specs.Prelude.{◌≡◌, ◌⊎◌, false, IsTrue, ◌^◌, ◌<◌};

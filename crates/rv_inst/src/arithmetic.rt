@@ -1,4 +1,4 @@
-//! What an instruction computes of its address and its sources.
+//! What an instruction computes from its address and its sources.
 #![tactic(auto, unfolding(crate::specs::Arithmetic::op_value, crate::specs::Arithmetic::is_taken, crate::specs::Arithmetic::alu_value, crate::specs::Arithmetic::next_pc))]
 
 ghost use Rattle.std.specs.Prelude.{◌≡◌, IsTrue};
@@ -26,7 +26,7 @@ fn operate(op: RegOp, a: u32, b: u32) -> u32
     }
 }
 
-/// Whether a branch on the condition is taken, where its first source has the value `a` and its second has `b`.
+/// Whether a branch on the condition is taken, if its first source has the value `a` and its second has `b`.
 #[inline(always)]
 pub fn is_taken(cond: Cond, a: u32, b: u32) -> bool
     ensures { result ≡ is_taken cond a b }
@@ -41,8 +41,8 @@ pub fn is_taken(cond: Cond, a: u32, b: u32) -> bool
     }
 }
 
-/// The value that the instruction at `pc` gives its destination, where its first source has the value `a` and its
-/// second has `b`. It is 0 for a branch, which has no destination.
+/// The value that the instruction at `pc` gives its destination, if its first source has the value `a` and its second
+/// has `b`. It is 0 for a branch, which has no destination.
 #[inline(always)]
 pub fn alu(i: Instr, pc: u32, a: u32, b: u32) -> u32
     requires arithmetic { IsTrue (is_arithmetic (class_of i)) }
@@ -59,7 +59,7 @@ pub fn alu(i: Instr, pc: u32, a: u32, b: u32) -> u32
 }
 
 /// The address of the instruction to run after the one at `pc`: the target of a jump or of a taken branch, and
-/// `pc + 4` for all else.
+/// otherwise `pc + 4`.
 #[inline(always)]
 pub fn next_of(i: Instr, pc: u32, a: u32, b: u32) -> u32
     ensures { result ≡ next_pc i pc a b }

@@ -1,4 +1,4 @@
-//! The instruction that a word stands for.
+//! The instruction that a word encodes.
 #![tactic(auto, unfolding(crate::specs::Decoding::decoded, crate::specs::Decoding::decoded_jalr, crate::specs::Decoding::decoded_branch, crate::specs::Decoding::decoded_load, crate::specs::Decoding::decoded_store, crate::specs::Decoding::decoded_imm, crate::specs::Decoding::decoded_op, crate::specs::Decoding::decoded_fence, crate::specs::Decoding::decoded_system, crate::specs::Decoding::decoded_mul, crate::specs::Decoding::decoded_m))]
 
 ghost use Rattle.std.specs.Prelude.{◌≡◌, IfSome, IfNone, IsTrue};
@@ -269,10 +269,9 @@ fn decode_extended(word: u32) -> Option<Instr>
     }
 }
 
-/// The instruction of RV32I with FENCE.I that the word stands for.
+/// The instruction of RV32I with FENCE.I that the word encodes.
 ///
-/// It is `None` exactly where the word stands for no such instruction, for example where it is a
-/// word of the M extension.
+/// It is `None` if and only if the word encodes no such instruction, for example if it is a word of the M extension.
 #[inline(always)]
 #[tactic(auto, using(crate::proofs::Reading::reading))]
 pub fn decode(word: u32) -> Option<Instr>
@@ -285,9 +284,9 @@ pub fn decode(word: u32) -> Option<Instr>
     decode_base(word)
 }
 
-/// The instruction that the word stands for, with the M extension.
+/// The instruction that the word encodes, with the M extension.
 ///
-/// It is `None` exactly where the word stands for no instruction.
+/// It is `None` if and only if the word encodes no instruction.
 #[inline(always)]
 #[tactic(auto, using(crate::proofs::Reading::reading_m))]
 pub fn decode_m(word: u32) -> Option<Instr>

@@ -1,4 +1,4 @@
-//! The word that stands for an instruction.
+//! The word that encodes an instruction.
 ghost use Rattle.std.specs.Prelude.{◌≡◌, ◌^◌, ℕ, ◌<◌, IsTrue};
 ghost use Rattle.rv_inst.specs.Encoding.{Encodes, is_base};
 ghost use Rattle.rv_inst.specs.Ranges.{Fits};
@@ -129,7 +129,7 @@ fn encode_word(i: Instr) -> u32
     }
 }
 
-/// The only word that stands for the instruction, whose fields are in range.
+/// The only word that encodes the instruction, whose fields are in range.
 #[tactic(auto, using(crate::proofs::Reading::writing))]
 pub fn encode(i: Instr) -> u32
     requires { Fits i }

@@ -157,7 +157,7 @@ pub fn imm_b(word: u32) -> i32
     (word.cast_signed() >> 31) * 0x1000 + low as i32
 }
 
-/// The U-immediate: bits 31 to 12, which count times 4096.
+/// The U-immediate: bits 31 to 12, in units of 4096.
 #[inline(always)]
 #[tactic(auto, unfolding(crate::specs::Fields::imm_u))]
 pub fn imm_u(word: u32) -> u32

@@ -116,15 +116,15 @@ pub enum MulOp {
 
 /// An instruction: its registers by number, and its immediate as the manual's assembly writes it.
 ///
-/// `fits` says which values stand for an instruction of the machine.
+/// `fits` says which values represent an instruction of the machine.
 #[derive(Clone, Copy, PartialEq, Eq)]
 pub enum Instr {
-    /// LUI; `imm` is the 20-bit field, which counts times 4096.
+    /// LUI; `imm` is the 20-bit field, in units of 4096.
     Lui {
         rd: u8,
         imm: u32,
     },
-    /// AUIPC; `imm` is the 20-bit field, which counts times 4096.
+    /// AUIPC; `imm` is the 20-bit field, in units of 4096.
     Auipc {
         rd: u8,
         imm: u32,

@@ -18,7 +18,7 @@ pub enum Isa {
     Rv32im,
 }
 
-/// The instruction of the set that the word stands for, as [`decode`] or [`decode_m`] gives it.
+/// The instruction of the set that the word encodes, as [`decode`] or [`decode_m`] returns it.
 #[inline(always)]
 pub fn decode_as(isa: Isa, word: u32) -> Option<Instr>
     ensures exact { result ≡ decoded_as isa word }

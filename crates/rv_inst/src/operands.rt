@@ -23,7 +23,7 @@ pub fn register_op(op: ImmOp) -> RegOp
     }
 }
 
-/// The numbers of the two source registers, 0 where there is none. They are below 32 where the fields are in range.
+/// The numbers of the two source registers, 0 if there is none. They are below 32 if the fields are in range.
 #[inline(always)]
 pub fn sources(i: Instr) -> (u8, u8)
     ensures exact { result ≡ sources_of i }
@@ -39,7 +39,7 @@ pub fn sources(i: Instr) -> (u8, u8)
     }
 }
 
-/// The number of the destination register, 0 where there is none.
+/// The number of the destination register, 0 if there is none.
 #[inline(always)]
 fn destination(i: Instr) -> u8
     ensures { result ≡ dest_of i }
@@ -58,8 +58,8 @@ fn destination(i: Instr) -> u8
     }
 }
 
-/// The number of the destination register, 0 where there is none. An environment call answers in x10. It is below 32
-/// where the fields are in range.
+/// The number of the destination register, 0 if there is none. An environment call returns its answer in x10. The
+/// number is below 32 if the fields are in range.
 #[inline(always)]
 #[tactic(auto, using(crate::proofs::Destinations::dest_fits))]
 pub fn dest(i: Instr) -> u8

@@ -1,4 +1,4 @@
-//! Words put together from their fields, one function for each format.
+//! Words built from their fields, with one function for each format.
 #![tactic(auto, using(crate::proofs::Packed::packing))]
 
 ghost use Rattle.std.specs.Prelude.{◌≡◌, ◌^◌, ℕ, ◌+◌, ◌*◌, ◌<◌, ◌≤◌, pos, negsuc, ◌≤ℤ◌, ◌<ℤ◌};
@@ -19,7 +19,7 @@ fn pack(opcode: u32, rd: u32, funct3: u32, rs1: u32, rs2: u32, funct7: u32) -> u
     opcode | rd << 7 | funct3 << 12 | rs1 << 15 | rs2 << 20 | funct7 << 25
 }
 
-/// A word from its six plain fields, where a destination and a source are given as registers.
+/// A word from its six plain fields, with a destination and a source given as registers.
 #[tactic(auto)]
 fn pack_rd_rs1(opcode: u32, funct3: u32, rd: u8, rs1: u8, rs2: u32, funct7: u32) -> u32
     requires opcode { opcode < 2 ^ 7 }

@@ -1,4 +1,4 @@
-//! Which values stand for an instruction of the machine.
+//! Which values represent an instruction of the machine.
 ghost use Rattle.std.specs.Prelude.{◌↔◌, ◌^◌, IsTrue};
 ghost use Rattle.rv_inst.specs.Ranges.{Fits, IsAmount, IsEven, IsImmediate, IsRegister, IsWithin};
 
@@ -44,7 +44,7 @@ fn is_jump_distance(imm: i32) -> bool
     -0x10_0000 <= imm && imm < 0x10_0000 && imm.unsigned_abs() % 2 == 0
 }
 
-/// Whether it is an immediate of the operation: an amount for a shift, else a signed number of 12 bits.
+/// Whether it is an immediate of the operation: an amount for a shift, otherwise a signed number of 12 bits.
 fn is_immediate(op: ImmOp, imm: i32) -> bool
     ensures { IsTrue result ↔ IsImmediate op imm }
 {

@@ -1,5 +1,5 @@
--- What a hart does alone, it does beside streams that are unchanged; and as an environment call ends, so does its
--- instruction.
+-- What a hart does alone, the machine does with unchanged streams; and an instruction that calls the environment ends
+-- as the call does.
 use Rattle.std.proofs.Common.{◌≡◌, ◌∙◌, ◌≢◌, ℕ, ◌%◌, List, [], Some, None, Ok, Err, true, false, ◌==◌, refl, ap, sym, subst, IsTrue, arith}
 use Rattle.std.proofs.lemmas.Bool.Decides.{nat_tests}
 use Rattle.mem_regions.specs.Memory.{Memory}
@@ -26,7 +26,7 @@ use Rattle.rv_machine.specs.Step.{beside, retire, compute, access_memory, pass, 
 use Rattle.rv_machine.specs.Acts.{HartDoes, Acts, Steps, Serves}
 use Rattle.rv_machine.proofs.InputKnown.{some_rest, rest-told, rest-spent, stays}
 
--- an outcome of the hart alone
+-- an outcome that concerns only the hart
 alone : (o : Outcome Hart) (calls : Type 0) (outcome : List ℕ → Outcome Machine) (old new : Hart)
     (s : Streams) (result : Stepped) →
     outcome (some_rest s.input) ≡ beside (some_rest s.input) [] o → HartDoes o old new result →
@@ -63,7 +63,7 @@ alone (Exit status) calls outcome old new s result is does =
       streams = refl;
     })
 
--- an outcome that is the hart's own, whatever the input has left
+-- an outcome that is the hart's own, whatever is left of the input
 pub acts-alone : (calls : Type 0) (outcome : List ℕ → Outcome Machine) (o : Outcome Hart)
     (old new : Hart) (s : Streams) (result : Stepped) →
     ((rest : List ℕ) → outcome rest ≡ beside rest [] o) → HartDoes o old new result →
@@ -71,7 +71,7 @@ pub acts-alone : (calls : Type 0) (outcome : List ℕ → Outcome Machine) (o : 
 acts-alone calls outcome o old new s result is does =
     alone o calls outcome old new s result (is (some_rest s.input)) does
 
--- a trap leaves all unchanged
+-- a trap leaves everything unchanged
 acts-trapping : (calls : Type 0) (outcome : List ℕ → Outcome Machine) (h : Hart) (s : Streams)
     (cause pc detail : ℕ) (result : Stepped) →
     ((rest : List ℕ) → outcome rest ≡ Trap cause pc detail) →
@@ -114,7 +114,7 @@ acts-as calls more outcome other old new before after stepped.ReadFault f is act
 acts-as calls more outcome other old new before after stepped.WriteFault f is acts =
     (f acts.0, acts.1, acts.2)
 
--- what the classes whose instructions compute have in common
+-- what the classes of instructions that compute have in common
 pub executed : (c : Class) (h : Hart) (word : ℕ) (i : Instr) → IsTrue (computes c) →
     (rest : List ℕ) → execute c h rest word i ≡ beside rest [] (compute h word i)
 unfolding execute
@@ -203,7 +203,7 @@ acts-answered word value next h new mem before after result returns following do
       spent = returns.spent;
     })
 
--- a hart that differs from another in its memory alone is that one where the memory is the same
+-- a hart that differs from another only in its memory is the same if the memory is the same
 same-memory : (h : Hart) (mem : Memory) → mem ≡ h.mem → record h { mem = mem } ≡ h
 same-memory h mem same = ap (λ (m : Memory). let n : Hart = record h { mem = m } in n) same
 
@@ -221,7 +221,7 @@ acts-quitting word status h mem before after quits = record {
   streams = quits.streams;
 }
 
--- an environment call that its input failed
+-- an environment call in which the input failed
 pub acts-failed-reading : (word : ℕ) (h : Hart) (mem : Memory) (before after : Streams) →
     Serves h.regs h.mem mem before after served.ReadFault →
     Acts (Unit {0}) (λ rest. environment h word (call h.regs h.mem rest)) h
@@ -229,7 +229,7 @@ pub acts-failed-reading : (word : ℕ) (h : Hart) (mem : Memory) (before after :
 unfolding Acts Serves
 acts-failed-reading word h mem before after fails = (tt, fails, refl)
 
--- an environment call that its output failed
+-- an environment call in which the output failed
 pub acts-failed-writing : (word : ℕ) (h : Hart) (mem : Memory) (before after : Streams) →
     Serves h.regs h.mem mem before after served.WriteFault →
     Acts (Unit {0}) (λ rest. environment h word (call h.regs h.mem rest)) h
@@ -262,7 +262,7 @@ steps-misaligned isa h s result e is =
     let f : (h.pc % 4 == 0) ≡ false = grind (arith, nat_tests) in
     acts-trapping _ _ h s 0 h.pc h.pc result (λ rest. rw f refl) is
 
--- nothing can be fetched there
+-- no word can be fetched there
 pub steps-unfetched : (isa : Isa) (h : Hart) (s : Streams) (e : MemErr) (result : Stepped) →
     h.pc % 4 ≡ 0 → fetch_at h.mem h.pc ≡ Err e → result ≡ stepped.Trap 1 h.pc h.pc →
     Steps isa h h s s result

@@ -1,4 +1,4 @@
--- A read leaves the bytes that were taken at the start of its buffer, and the old ones after them.
+-- A read leaves the bytes that were taken at the start of its buffer, and the old bytes after them.
 use Rattle.std.proofs.Common.{◌≡◌, ◌∙◌, ℕ, ◌+◌, ◌-◌, ◌≤◌, List, [], ◌∷◌, ◌++◌, Bool, true, false, Option, Some, None, Result, Ok, Err, IsTrue, length, take, drop, find, cond, refl, ap, sym, arith, append_assoc}
 use Rattle.std.specs.Prelude.{IfOk, OnErr}
 use Rattle.std.specs.Option.{option_map}
@@ -13,8 +13,8 @@ use Rattle.mem_regions.proofs.Writes.{writes-lies}
 use Rattle.rv_machine.specs.Streams.{GivesInput}
 use Rattle.rv_machine.specs.Buffers.{TakesInto, Fills, FillsSome}
 
--- a part and what comes after it are the part's prefix and what comes after that, where the part has the old bytes
--- after its prefix
+-- a part and what comes after it are the part's prefix and what comes after that, if the part has the old bytes after
+-- its prefix
 tail-kept : (bytes new : List ℕ) (at len n : ℕ) → at + len ≤ length bytes → length new ≡ len →
     n ≤ len → drop n new ≡ drop n (take len (drop at bytes)) →
     new ++ drop (at + length new) bytes ≡ take n new ++ drop (at + length (take n new)) bytes
@@ -30,7 +30,7 @@ tail-kept bytes new at len n within size some same =
     let front : length (take n new) ≡ n = length-take-le n new (omega (arith, size, some)) in
     rw (size, front, ← following, ← same, ← append_assoc (take n new) (drop n new) (drop (at + len) bytes), take-append-drop n new) refl
 
--- to write such a part over a slice is to write its prefix
+-- writing such a part over a slice means writing its prefix
 overwritten-front : (bytes new : List ℕ) (at len n : ℕ) → at + len ≤ length bytes →
     length new ≡ len → n ≤ len → drop n new ≡ drop n (take len (drop at bytes)) →
     overwritten bytes at new ≡ overwritten bytes at (take n new)
@@ -73,7 +73,7 @@ first_changed-front addr len n new old (x ∷ xs) size some same h =
     front_step addr len n new old x xs _ _ (writes_in addr len x) refl size some same h
     (first_changed-front addr len n new old xs size some same)
 
--- memory whose buffer comes back with other bytes at its prefix alone
+-- memory whose buffer returns with other bytes only at its prefix
 memory_with-front : (mem : Memory) (addr len n : ℕ) (old new : List ℕ) →
     writable_of mem addr len ≡ Some old → length new ≡ len → n ≤ len → drop n new ≡ drop n old →
     memory_with mem addr len new ≡ memory_with mem addr len (take n new)
@@ -82,14 +82,14 @@ memory_with-front mem addr len n old new h size some same =
     ap (λ (areas : List Area). let m : Memory = record mem { areas = areas } in m)
     (first_changed-front addr len n new old mem.areas size some same h)
 
--- what is known of an input whose first bytes were taken
+-- what is known about an input whose first bytes were taken
 front-gives : (left after : Option (List ℕ)) (new : List ℕ) (n : ℕ) →
     GivesFront left after new n → GivesInput left after (take n new)
 front-gives None after new n gives = tt
 front-gives (Some told) after new n gives =
     (drop n told, rw gives.1 (sym (take-append-drop n told)), gives.2)
 
--- the buffer was lent to an input that gave n bytes
+-- the buffer was passed by reference to an input that gave n bytes
 takes-into : (mem : Memory) (addr len n : ℕ) (old new : List ℕ) (left after : Option (List ℕ)) →
     Some old ≡ writable_of mem addr len → length old ≡ len → length new ≡ length old →
     TakesSome left after old new n →
@@ -101,7 +101,7 @@ takes-into mem addr len n old new left after h size same takes =
       gives = front-gives left after new n takes.told;
     }
 
--- the buffer was lent to an input that then was at its end, if the buffer is not full
+-- the buffer was passed by reference to an input that then was at its end, if the buffer is not full
 pub fills-all : {E : Type 0} (mem : Memory) (addr len : ℕ) (old new : List ℕ)
     (left after : Option (List ℕ)) (result : Result ℕ E) → Some old ≡ writable_of mem addr len →
     length old ≡ len → length new ≡ length old → TakesAll left after old new result →

@@ -31,11 +31,11 @@ serves-plain regs mem new s value is = record {
   spent = rest-spent s.input;
 }
 
--- a number that is not that one
+-- a number other than that one
 other : {n : ℕ} (k : ℕ) → n ≢ k → (n == k) ≡ false
 other {n} k h = grind (arith, nat_tests)
 
--- a read of another file
+-- a read of a different file
 pub reads-bad-file : (regs : List ℕ) (mem : Memory) (s : Streams) → call_number regs ≡ 63 →
     first_argument regs ≢ 0 → Serves regs mem mem s s (served.Value bad_file)
 unfolding call read
@@ -87,7 +87,7 @@ read-is regs mem taken later n fd len can count =
     rw (n, fd, other 0 len, can)
     (read_into-is (second_argument regs) (third_argument regs) mem taken later count)
 
--- the rest that a read finds: all that is known, or else exactly the bytes that it takes
+-- the rest that a read finds: all that is known, or otherwise exactly the bytes that it takes
 record Finds (left after : Option (List ℕ)) (len : ℕ) (taken : List ℕ) : Type 0 where
   pub later : List ℕ
   pub told : IsTold left (taken ++ later)
@@ -167,7 +167,7 @@ not-input : (regs : List ℕ) (mem : Memory) → call_number regs ≡ 64 → IsT
 unfolding asks_input
 not-input regs mem n asks = let no : false ≡ true = rw n at asks in cc
 
--- a read leaves the output unchanged, whatever that exposes
+-- a read leaves the output unchanged, whatever it exposes
 pub beside-output : (regs : List ℕ) (mem new : Memory) (left after output : Option (List ℕ))
     (result : Served) → call_number regs ≡ 63 →
     Serves regs mem new (streams_of left (Some [])) (streams_of after (Some [])) result →
@@ -197,7 +197,7 @@ beside-output regs mem new left after output served.ReadFault n h =
 beside-output regs mem new left after output served.WriteFault n h =
     absurd (not-output regs mem n h.0.asks)
 
--- a write to another file
+-- a write to a different file
 pub writes-bad-file : (regs : List ℕ) (mem : Memory) (s : Streams) → call_number regs ≡ 64 →
     is_output (first_argument regs) ≡ false → Serves regs mem mem s s (served.Value bad_file)
 unfolding call write
@@ -212,7 +212,7 @@ unfolding call write
 writes-nothing regs mem s n fd len =
     serves-plain regs mem mem s 0 (λ rest. rw (n, fd, len) refl)
 
--- a write from a buffer that does not lie in memory
+-- a write from a buffer that is not in memory
 pub writes-nowhere : (regs : List ℕ) (mem : Memory) (s : Streams) → call_number regs ≡ 64 →
     is_output (first_argument regs) ≡ true → third_argument regs ≢ 0 →
     range_of mem (second_argument regs) (third_argument regs) ≡ None →
@@ -267,12 +267,12 @@ unfolding asks_output
 writes-asking regs mem bytes n fd len some asks =
     let no : true ≡ false = rw (n, fd, other 0 len, some) at asks in cc
 
--- what a call gives, with another rest of the input
+-- the answer of a call, with another rest of the input
 abbrev with_rest : List ℕ → Called → Called
 with_rest rest (Value a) = Value (record a { rest = rest })
 with_rest rest (Exit status) = Exit status
 
--- a write leaves the rest as it finds it, by its tests
+-- a write leaves the rest as it was, by its tests
 write_step : (a b : Bool) (buffer : Option (List ℕ)) (len : ℕ) (mem : Memory)
     (one rest : List ℕ) →
     cond (not a) (answered_alone bad_file mem rest)
@@ -291,7 +291,7 @@ write-rest regs mem one rest n = rw n (write_step (is_output (first_argument reg
     (third_argument regs == 0) (range_of mem (second_argument regs) (third_argument regs))
     (third_argument regs) mem one rest)
 
--- a write leaves the input unchanged, whatever that exposes
+-- a write leaves the input unchanged, whatever it exposes
 pub beside-input : (regs : List ℕ) (mem : Memory) (input written after : Option (List ℕ))
     (result : Served) → call_number regs ≡ 64 →
     Serves regs mem mem (streams_of (Some []) written) (streams_of (Some []) after) result →
@@ -350,7 +350,7 @@ unfolding call
 serves-break regs mem new s value n is answer =
     serves-plain regs mem new s value (λ rest. rw (n, answer, is) refl)
 
--- the number of no call
+-- a number that no call has
 pub serves-nothing : (regs : List ℕ) (mem : Memory) (s : Streams) → call_number regs ≢ 63 →
     call_number regs ≢ 64 → is_exit (call_number regs) ≡ false → call_number regs ≢ 214 →
     Serves regs mem mem s s (served.Value no_such_call)

@@ -1,4 +1,4 @@
--- A step by what is at the program counter.
+-- A step, according to what is at the program counter.
 use Rattle.std.proofs.Common.{◌≡◌, ◌≢◌, ℕ, ◌%◌, false, Option, Some, None, Result, Ok, Err, find, refl, ap, sym, ◌∙◌, arith}
 use Rattle.std.proofs.lemmas.Bool.Decides.{nat_tests}
 use Rattle.mem_regions.specs.Memory.{Memory}
@@ -21,7 +21,7 @@ use Rattle.rv_machine.specs.Decoded.{found_as, read_from, found_at, is_instructi
 use Rattle.rv_machine.proofs.Acting.{acts-unknown, steps-misaligned, steps-unfetched, steps-fetched}
 use Rattle.rv_machine.proofs.Sets.{set-unknown}
 
--- what was read, by the instruction that the word stands for
+-- what was read, by the instruction that the word encodes
 read_as-instruction : (v w : ℕ) (i : Instr) (o : Option Instr) → found_as v o ≡ found.Instruction w i → (v ≡ w) × (o ≡ Some i)
 read_as-instruction v w i None e = grind arith
 read_as-instruction v w i (Some j) e = grind arith
@@ -68,7 +68,7 @@ unpermitted-aligned : (m : Memory) (pc : ℕ) → fetch_at m pc ≡ Err NoAccess
 unfolding fetch_at
 unpermitted-aligned m pc e = grind (arith, nat_tests)
 
--- what is read from a region that was found, or from none, is never misaligned
+-- what is read from a region that was found, or from none, is never reported as misaligned
 word_of-aligned : (pc : ℕ) (o : Option Area) → word_found pc o ≢ Err Misaligned
 word_of-aligned pc None e = grind arith
 word_of-aligned pc (Some a) e = grind arith
@@ -79,7 +79,7 @@ misaligned m pc e a =
     let f : word_found pc (find (fetches_in pc) m.areas) ≡ Err Misaligned = rw a at e in
     word_of-aligned pc (find (fetches_in pc) m.areas) f
 
--- where there is an instruction of RV32IM
+-- if there is an instruction of RV32IM
 pub steps-found : (isa : Isa) (h new : Hart) (before after : Streams) (word : ℕ) (i : Instr)
     (result : Stepped) → found_at h.mem h.pc ≡ found.Instruction word i →
     Acts (decoded_as isa word ≡ Some instr.Ecall)
@@ -90,7 +90,7 @@ steps-found isa h new before after word i result e acts =
     let f = read_from-instruction (fetch_at h.mem h.pc) word i e in
     steps-fetched isa h new before after word result (word-aligned h.mem h.pc word f.0) f.0 acts
 
--- there is no instruction
+-- if there is no instruction
 stopped : (isa : Isa) (h : Hart) (s : Streams) (f : Found) (result : Stepped) → read_from (fetch_at h.mem h.pc) ≡ f →
     is_instruction f ≡ false → result ≡ trap_of h.pc f → Steps isa h h s s result
 stopped isa h s (found.Instruction word i) result e none is = absurd (grind arith)
@@ -114,7 +114,7 @@ pub found-decoded : (m : Memory) (pc word : ℕ) (i : Instr) → found_at m pc �
 unfolding found_at
 found-decoded m pc word i e = (read_from-instruction (fetch_at m pc) word i e).1
 
--- it is ECALL
+-- if it is ECALL
 pub calls-here : (isa : Isa) (h : Hart) (word : ℕ) (i : Instr) → found_at h.mem h.pc ≡ found.Instruction word i →
     decoded_as isa word ≡ Some instr.Ecall → CallsHere isa h
 unfolding found_at

@@ -1,4 +1,4 @@
--- The flat operation of an instruction stands for it.
+-- The flat operation of an instruction represents it.
 use Rattle.std.proofs.Common.{◌≡◌, ℕ, ℤ, Some, refl}
 use Rattle.rv_inst.specs.declared.instruction.Cond.{Cond}
 use Rattle.rv_inst.specs.declared.instruction.Cond.TheVariants as cond
@@ -62,7 +62,7 @@ reg-flat reg.And rd rs1 rs2 n = refl
 
 pub ruleset flattening = (branch-flat, load-flat, store-flat, imm-flat, reg-flat)
 
--- ADDI of x0 is an operation of its own
+-- ADDI of x0 has its own operation
 pub nop-flat : (f : Flat) (i : Instr) → IfSome (instr_of f) (λ j. j ≡ i) → f.op ≡ op.Addi → f.rd ≡ 0 →
     IfSome (instr_of (record f { op = op.Nop })) (λ j. j ≡ i)
 nop-flat f i h o z = rw (← z) (rw o at h)

@@ -1,10 +1,10 @@
--- What streams expose where they are not used, and after one use and then another.
+-- What streams expose if they are not used, and after two uses, one after the other.
 use Rattle.std.proofs.Common.{◌≡◌, ℕ, List, [], ◌++◌, Option, Some, None, refl, ap, sym, ◌∙◌, subst, append-nil, append_assoc}
 use Rattle.std.specs.Prelude.{unwrap_or}
 use Rattle.cf_io.specs.Puts.{Writes}
 use Rattle.rv_machine.specs.Streams.{Streams, IsTold, Becomes, Leaves, IsSpent}
 
--- an input that agrees with what is known: the empty one where nothing is known
+-- an input that agrees with what is known: the empty one if nothing is known
 abbrev pub some_rest : Option (List ℕ) → List ℕ
 some_rest told = unwrap_or told []
 
@@ -16,7 +16,7 @@ pub rest-spent : (told : Option (List ℕ)) → IsSpent told (some_rest told)
 rest-spent None = refl
 rest-spent (Some told) = tt
 
--- an input that nothing was taken from, and an output that nothing was written to
+-- an input from which nothing was taken, and an output to which nothing was written
 input-stays : (told : Option (List ℕ)) (rest : List ℕ) → IsTold told rest → Becomes told told rest
 input-stays None rest h = tt
 input-stays (Some told) rest h = ap Some (sym h)
@@ -29,7 +29,7 @@ output-stays (Some told) = ap Some (sym (append-nil told))
 pub stays : (s : Streams) (rest : List ℕ) → IsTold s.input rest → Leaves s s rest []
 stays s rest h = record { input = input-stays s.input rest h; output = output-stays s.output }
 
--- an input after two takes, and an output after two puts
+-- an input after two reads, and an output after two writes
 becomes-again : (a b c : Option (List ℕ)) (x y : List ℕ) → Becomes a b x → Becomes b c y →
     Becomes a c y
 becomes-again None b c x y h k = tt
@@ -45,7 +45,7 @@ writes-again (Some told) b c x y h k =
     let both : c ≡ Some ((told ++ x) ++ y) = subst P h k in
     both ∙ ap Some (append_assoc told x y)
 
--- streams after one use and then another
+-- streams after two uses
 pub leaves-again : (a b c : Streams) (rest next x y : List ℕ) → Leaves a b rest x →
     Leaves b c next y → Leaves a c next (x ++ y)
 leaves-again a b c rest next x y h k = record {

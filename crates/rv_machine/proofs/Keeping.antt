@@ -1,4 +1,4 @@
--- What a cache keeps is right as long as the code that is fetched is unchanged.
+-- What a cache stores is right as long as the code that is fetched is unchanged.
 use Rattle.std.proofs.Common.{◌≡◌, ◌∙◌, ℕ, ◌<◌, ◌^◌, List, length, slice_index_or, slice_set, true, IsTrue, refl, ap, sym, subst, arith}
 use Rattle.std.proofs.lemmas.List.Elements.{All-set}
 use Rattle.std.proofs.lemmas.Bool.Decides.{nat_tests}
@@ -30,17 +30,17 @@ pub cache-same-code : (m n : Memory) (places : List Decoded) → HasSameCode m n
 unfolding HasSameCode
 cache-same-code m n places same = cache-same m n places same
 
--- a store keeps it
+-- a store preserves this
 pub cache-stored : (m : Memory) (addr width number : ℕ) (places : List Decoded) → IsCacheOf m places →
     IsCacheOf (stored m addr width number) places
 cache-stored m addr width number places = cache-same m _ places (fetch_at-stored m addr width number)
 
--- where nothing is kept, all that is kept is right
+-- if nothing is stored, all that is stored is right
 pub cache-empty : (m : Memory) (places : List Decoded) → All IsEmpty places → IsCacheOf m places
 unfolding IsCacheOf
 cache-empty m places empty = λ k d below small. absurd (omega arith)
 
--- what is at one address is kept with the rest
+-- what is at one address is stored with the rest
 pub cache-with : (m : Memory) (places : List Decoded) (k address pc word : ℕ) (i : Instr) → address ≡ pc →
     found_at m pc ≡ found.Instruction word i → IsCacheOf m places →
     IsCacheOf m (slice_set places k (record { address = address; word = word; instr = i }))
@@ -50,13 +50,13 @@ cache-with m places k address pc word i e is cache =
     let d : Decoded = record { address = address; word = word; instr = i } in
     All-set (IsKeptOf m) places k d (λ small. subst P (sym e) is) cache
 
--- the address is kept where it was put
+-- the address is found where it was stored
 pub keeps-with : (places : List Decoded) (address pc word : ℕ) (i : Instr) → address ≡ pc → place_at pc < length places →
     IsTrue (cache_keeps (slice_set places (place_at pc) (record { address = address; word = word; instr = i })) pc)
 unfolding cache_keeps
 keeps-with places address pc word i e below = grind (arith, nat_tests, get_or-set_at)
 
--- what the cache keeps of an address is what memory has there
+-- what the cache stores for an address is what memory has there
 pub cache-at : (m : Memory) (places : List Decoded) (pc : ℕ) → IsCacheOf m places → IsTrue (cache_keeps places pc) →
     place_at pc < length places → pc < 2 ^ 32 →
     found_at m pc ≡ found.Instruction (slice_index_or places (place_at pc) nothing_kept).word
@@ -68,7 +68,7 @@ cache-at m places pc cache has below small =
     let P : ℕ → Type 0 = λ n. found_at m n ≡ found.Instruction d.word d.instr in
     subst P e (cache (place_at pc) nothing_kept below (rw e small))
 
--- what the cache keeps is an instruction
+-- what the cache stores is an instruction
 pub cache-has : (m : Memory) (places : List Decoded) (pc : ℕ) → IsCacheOf m places → cache_keeps places pc ≡ true →
     place_at pc < length places → pc < 2 ^ 32 → is_instruction (found_at m pc) ≡ true
 cache-has m places pc cache has below small = rw (cache-at m places pc cache has below small) refl

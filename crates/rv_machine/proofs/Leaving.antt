@@ -81,7 +81,7 @@ served-leaves regs mem new before after served.ReadFault pc fails =
     ap (λ (m : Memory). fetch_at m pc) fails.takes.memory ∙ fetch_at-memory_with mem _ _ fails.taken pc
 served-leaves regs mem new before after served.WriteFault pc fails = ap (λ (m : Memory). fetch_at m pc) fails.1
 
--- and with them what a cache keeps
+-- and so it preserves what a cache stores
 pub cache-served : (regs : List ℕ) (mem new : Memory) (before after : Streams) (result : Served) (places : List Decoded) →
     Serves regs mem new before after result → IsCacheOf mem places → IsCacheOf new places
 cache-served regs mem new before after result places serves =

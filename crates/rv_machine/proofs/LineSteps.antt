@@ -14,7 +14,7 @@ use Rattle.rv_machine.specs.Quick.{IsCarriedOut, spot_address, hart_of, RetireAl
 use Rattle.rv_machine.proofs.Lines.{stands-from, word-aligned}
 use Rattle.rv_machine.proofs.Steps.{turned, retires-alone, retire-next}
 
--- the operation at a spot of the line stands for what memory has there
+-- the operation at a spot of the line represents what memory has there
 pub stands-there : (mem : Memory) (line : FlatLine) (spot : Spot) (f : Flat) → spot.base ≡ line.base → IsLineOf mem line →
     spot.at < 257 → f ≡ flat_at line spot.at → StandsFor mem (spot_address spot) f
 stands-there mem line spot f b h below e =
@@ -35,7 +35,7 @@ passes-on start mem new line spot regs later n m turn f b h below e other passes
     retire-next start _ _ n m more (subst P (sym b) run)
     (retires-alone mem new spot n regs later turn f (stands-there mem line spot f b h below e).is (address-aligned mem line spot b h) other passes)
 
--- the address behind an index is that of the next one
+-- the address after an index is that of the next one
 next-address : (base at : ℕ) → word_sum (word_sum base (at * 4)) 4 ≡ word_sum base ((at + 1) * 4)
 next-address base at = omega arith
 

@@ -1,4 +1,4 @@
--- Lines keep what memory has, as long as its code is the same.
+-- Lines store what memory has, as long as the code is the same.
 use Rattle.std.proofs.Common.{get_or-set_other, replicate, ◌≡◌, ◌∙◌, ℕ, ◌+◌, ◌-◌, ◌*◌, ◌/◌, ◌%◌, ◌^◌, ◌<◌, ◌==◌, ◌≢◌, ◌⊎◌, inl, inr, Bool, false, List, length, slice_index_or, slice_set, true, Some, None, Option, IsTrue, refl, ap, sym, subst, arith}
 use Rattle.std.specs.Prelude.{IfSome}
 use Rattle.std.proofs.lemmas.List.{get_or-replicate}
@@ -20,11 +20,11 @@ use Rattle.rv_machine.specs.Quick.{HasSameCode}
 use Rattle.rv_machine.proofs.Keeping.{found_at-same}
 use Rattle.rv_machine.proofs.Quick.{store-same}
 
--- an operation that is not known stands for anything
+-- an unknown operation may represent anything
 stands-none : (mem : Memory) (pc : ℕ) (f : Flat) → f ≡ no_operation → StandsFor mem pc f
 stands-none mem pc f e = subst (StandsFor mem pc) (sym e) (record { is = tt; written = λ h. absurd (cc) })
 
--- a blank line is one of each memory
+-- a blank line is a line of any memory
 pub line-blank : (mem : Memory) (line : FlatLine) → IsBlank line → IsLineOf mem line
 line-blank mem line blank = record {
   aligned = blank.0;
@@ -37,7 +37,7 @@ pub lines-blank : (mem : Memory) (lines : List FlatLine) → All IsBlank lines �
 unfolding AreLinesOf
 lines-blank mem lines blank = λ k d below. line-blank mem (slice_index_or lines k d) (blank k d below)
 
--- what an operation stands for depends only on the code
+-- what an operation represents depends only on the code
 if-same : (m n : Memory) (pc : ℕ) (o : Option Instr) → fetch_at n pc ≡ fetch_at m pc → IfSome o (IsAt m pc) → IfSome o (IsAt n pc)
 if-same m n pc None same h = tt
 if-same m n pc (Some i) same h = record { word = h.word; is = found_at-same m n pc same ∙ h.is }
@@ -57,7 +57,7 @@ pub lines-same : (m n : Memory) (lines : List FlatLine) → HasSameCode m n → 
 unfolding AreLinesOf
 lines-same m n lines same h = λ k d below. line-same m n (slice_index_or lines k d) same (h k d below)
 
--- a store keeps them
+-- a store preserves them
 pub lines-stored : (m : Memory) (addr width number : ℕ) (lines : List FlatLine) → AreLinesOf m lines →
     AreLinesOf (stored m addr width number) lines
 lines-stored m addr width number lines = lines-same m _ lines (store-same m addr width number)
@@ -77,7 +77,7 @@ within-line line pc h = let d = covered line pc h in omega (arith, d)
 
 pub ruleset spotting = (within-line)
 
--- a line that begins with the block of an address has it
+-- a line that begins with the block of an address has the address
 pub covers-block : (pc : ℕ) (ops : List Flat) → pc < 2 ^ 32 → IsTrue (covers (record { base = pc - pc % 1024; ops = ops }) pc)
 unfolding covers
 covers-block pc ops below = let d : word_difference pc (pc - pc % 1024) < 1024 = omega (arith, below) in grind (arith, nat_tests)
@@ -86,7 +86,7 @@ pub ruleset within = (within-line)
 
 pub ruleset beginning = (covers-block)
 
--- a line with one operation more
+-- a line with one more operation
 op-by : (ops : List Flat) (j k : ℕ) (f : Flat) (P : ℕ → Flat → Type 0) (b : Bool) → (j == k) ≡ b → k < length ops →
     P k f → P j (slice_index_or ops j no_operation) → P j (slice_index_or (slice_set ops k f) j no_operation)
 op-by ops j k f P true e inside new old =
@@ -116,7 +116,7 @@ line-with mem line pc f len h c aligned below new = record {
       (subst (λ (n : ℕ). StandsFor mem n f) (sym (address-is line.base pc h.aligned h.within aligned below)) new) (h.stand j inside);
 }
 
--- it covers what it covered
+-- it still covers what it covered
 pub covers-with : (line : FlatLine) (pc : ℕ) (ops : List Flat) → IsTrue (covers line pc) →
     IsTrue (covers (record { base = line.base; ops = ops }) pc)
 unfolding covers
@@ -124,18 +124,18 @@ covers-with line pc ops c = c
 
 pub ruleset learning = (line-with, covers-with)
 
--- the line that is prepared: it is blank, or one of the memory
+-- the line that is prepared: it is blank, or a line of the memory
 pub line-begun : (mem : Memory) (line old : FlatLine) → IsLineOf mem old → (IsBlank line) ⊎ (line ≡ old) → IsLineOf mem line
 line-begun mem line old h (inl blank) = line-blank mem line blank
 line-begun mem line old h (inr same) = subst (IsLineOf mem) (sym same) h
 
--- lines with one more
+-- lines with one more line
 pub lines-with : (mem : Memory) (lines : List FlatLine) (k : ℕ) (line : FlatLine) → AreLinesOf mem lines → IsLineOf mem line →
     AreLinesOf mem (slice_set lines k line)
 unfolding AreLinesOf
 lines-with mem lines k line h new = All-set (IsLineOf mem) lines k line new h
 
--- the line of an index
+-- the line at an index
 pub line-of : (mem : Memory) (lines : List FlatLine) (k : ℕ) → k < length lines → AreLinesOf mem lines →
     IsLineOf mem (slice_index_or lines k no_line)
 unfolding AreLinesOf
@@ -143,11 +143,11 @@ line-of mem lines k below h = h k no_line below
 
 pub ruleset preparing = (line-begun, lines-with, line-of)
 
--- operations that are not known, as many as a line has, are a blank line
+-- unknown operations, as many as a line has, are a blank line
 pub blank-line : (base : ℕ) → base % 4 ≡ 0 → base < 2 ^ 32 → IsBlank (record { base = base; ops = replicate 257 no_operation })
 blank-line base aligned within = (aligned, within, λ j below. get_or-replicate 257 j no_operation no_operation below)
 
--- the same code follows from the same code
+-- having the same code is transitive
 pub same-again : (a b c : Memory) → HasSameCode a b → HasSameCode b c → HasSameCode a c
 unfolding HasSameCode
 same-again a b c f g pc = g pc ∙ f pc
@@ -156,7 +156,7 @@ pub ruleset carrying = (lines-same)
 
 pub ruleset still_lines = (lines-blank, lines-stored)
 
--- the line that was set has what it has
+-- an address that a line covers is covered after the line is set
 pub cover-with : (lines : List FlatLine) (pc : ℕ) (line : FlatLine) → line_at pc < length lines → IsTrue (covers line pc) →
     IsTrue (cover (slice_set lines (line_at pc) line) pc)
 unfolding cover
@@ -164,7 +164,8 @@ cover-with lines pc line below c = rw (get_or-set_at lines (line_at pc) (line_at
 
 pub ruleset covering = (cover-with)
 
--- the operation at an index of the line stands for what memory has there; that behind the last stands for nothing
+-- the operation at an index of the line represents what memory has there; the operation after the last represents
+-- nothing
 stands-last : (mem : Memory) (line : FlatLine) (pc : ℕ) → IsLineOf mem line → StandsFor mem pc (flat_at line 256)
 stands-last mem line pc h = stands-none mem pc (flat_at line 256) h.last
 
@@ -180,7 +181,7 @@ pub stands-from : (mem : Memory) (line : FlatLine) (at : ℕ) → IsLineOf mem l
     StandsFor mem (word_sum line.base (at * 4)) (flat_at line at)
 stands-from mem line at h below = stands-by mem line at (at == 256) refl h below
 
--- an index behind which is another one: the operation there is known
+-- an index at which the operation is known is not the last
 inside-by : (mem : Memory) (line : FlatLine) (at : ℕ) (b : Bool) → (at == 256) ≡ b → IsLineOf mem line → at < 257 →
     (flat_at line at).op ≢ Slow → at + 1 < 257
 inside-by mem line at true e h below known =

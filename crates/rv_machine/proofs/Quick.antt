@@ -1,4 +1,4 @@
--- Instructions that need no stream: where they go on, and that they leave the code as it is.
+-- Instructions that need no stream: where the program continues, and that they leave the code as it is.
 use Rattle.std.proofs.Common.{◌≡◌, ℕ, ◌*◌, ◌/◌, ◌%◌, ◌^◌, ◌<◌, ◌==◌, List, Ok, true, false, ℤ, IsTrue, refl, ap, subst, arith}
 use Rattle.mem_regions.specs.Ranges.{load_at}
 use Rattle.mem_regions.specs.Memory.{Memory}
@@ -16,7 +16,7 @@ use Rattle.rv_mul.specs.Values.{value_of}
 use Rattle.rv_machine.specs.Step.{with_register, register_value, retire, compute, access_memory}
 use Rattle.rv_machine.specs.Quick.{goes_straight, is_store, hart_of, LeadsOnTo, HasSameCode}
 
--- after an instruction that is no jump and no branch the program goes on at the next word
+-- after an instruction that is neither a jump nor a branch the program continues at the next word
 pub straight-next : (i : Instr) (pc a b : ℕ) → IsTrue (goes_straight i) → next_pc i pc a b ≡ word_sum pc 4
 unfolding next_pc
 straight-next (Lui rd imm) pc a b h = refl
@@ -34,11 +34,11 @@ straight-next Ebreak pc a b h = refl
 straight-next (FenceI rd rs1 imm) pc a b h = refl
 straight-next (Mul op rd rs1 rs2) pc a b h = refl
 
--- the next word is aligned as this one is
+-- the next word is aligned if this one is
 pub straight-aligned : (pc : ℕ) → pc % 4 ≡ 0 → word_sum pc 4 % 4 ≡ 0
 straight-aligned pc h = omega (arith, h)
 
--- so an instruction that computes goes on there, and its destination has the value
+-- so after an instruction that computes it continues there, and its destination has the value
 pub compute-straight : (i : Instr) (pc : ℕ) (regs : List ℕ) (mem : Memory) → IsTrue (goes_straight i) → pc % 4 ≡ 0 →
     LeadsOnTo (compute (hart_of pc regs mem) 0 i) (word_sum pc 4)
     (with_register regs (dest_of i) (value_of i pc (register_value regs (sources_of i).0) (register_value regs (sources_of i).1))) mem
@@ -49,7 +49,7 @@ compute-straight i pc regs mem h aligned =
     let test : (word_sum pc 4 % 4 == 0) ≡ true = ap (λ (n : ℕ). n == 0) (straight-aligned pc aligned) in
     rw (next, test) refl
 
--- one that has no destination changes no register
+-- an instruction without a destination changes no register
 pub compute-nothing : (i : Instr) (pc : ℕ) (regs : List ℕ) (mem : Memory) → IsTrue (goes_straight i) → dest_of i ≡ 0 → pc % 4 ≡ 0 →
     LeadsOnTo (compute (hart_of pc regs mem) 0 i) (word_sum pc 4) regs mem
 compute-nothing i pc regs mem h none aligned =
@@ -59,7 +59,7 @@ compute-nothing i pc regs mem h none aligned =
 
 pub ruleset straight = (compute-straight, compute-nothing)
 
--- a branch that is not taken goes on at the next word
+-- after a branch that is not taken the program continues at the next word
 pub branch-on : (c : Cond) (rs1 rs2 : ℕ) (imm : ℤ) (pc : ℕ) (regs : List ℕ) (mem : Memory) →
     is_taken c (register_value regs rs1) (register_value regs rs2) ≡ false → pc % 4 ≡ 0 →
     LeadsOnTo (compute (hart_of pc regs mem) 0 (Branch c rs1 rs2 imm)) (word_sum pc 4) regs mem
@@ -68,7 +68,7 @@ branch-on c rs1 rs2 imm pc regs mem taken aligned =
     let test : (word_sum pc 4 % 4 == 0) ≡ true = ap (λ (n : ℕ). n == 0) (straight-aligned pc aligned) in
     rw (taken, test) refl
 
--- one that is taken goes on at its target
+-- after one that is taken it continues at its target
 pub target-aligned : (pc distance : ℕ) → pc % 4 ≡ 0 → distance % 4 ≡ 0 → word_sum pc distance % 4 ≡ 0
 target-aligned pc distance a d = omega (arith, a, d)
 
@@ -100,7 +100,7 @@ load-reads Ebreak a b h = absurd (cc)
 load-reads (FenceI rd rs1 imm) a b h = absurd (cc)
 load-reads (Mul op rd rs1 rs2) a b h = absurd (cc)
 
--- a load goes on at the next word, and its destination has the extended number
+-- after a load the program continues at the next word, and its destination has the extended number
 pub load-goes : (i : Instr) (pc raw : ℕ) (regs : List ℕ) (mem : Memory) (access : Access) → IsTrue (is_load i) →
     access ≡ access_made i (register_value regs (sources_of i).0) (register_value regs (sources_of i).1) →
     load_at mem access.addr access.width ≡ Ok raw →
@@ -149,7 +149,7 @@ address-wraps base at = omega arith
 pub index-is : (base pc : ℕ) → base < 2 ^ 32 → pc < 2 ^ 32 → base % 4 ≡ 0 → pc % 4 ≡ 0 → word_sum base (word_difference pc base / 4 * 4) ≡ pc
 index-is base pc small below aligned word = omega (arith, small, below, aligned, word)
 
--- an index counts only by its last 30 bits
+-- only the last 30 bits of an index count
 pub address-by : (base at : ℕ) → word_sum base (at % 1073741824 * 4) ≡ word_sum base (at * 4)
 address-by base at = omega arith
 

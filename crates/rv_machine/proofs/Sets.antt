@@ -1,4 +1,4 @@
--- The instructions of RV32IM that RV32I has too.
+-- The instructions of RV32IM that are also in RV32I.
 use Rattle.std.proofs.Common.{◌≡◌, ◌∙◌, ℕ, Bool, true, false, IsTrue, Option, Some, None, if◌then◌else◌, sym, subst, refl, arith}
 use Rattle.std.specs.Prelude.{IfSome}
 use Rattle.rv_inst.specs.declared.isa.Isa.{Isa}
@@ -16,7 +16,7 @@ use Rattle.rv_machine.specs.Decoded.{in_set}
 read-in-both : (w : ℕ) (i : Instr) → decoded w ≡ Some i → decoded_m w ≡ Some i
 read-in-both w i e = decoded_m_complete w i (decoded-encodes w i e)
 
--- where the larger set has an instruction of the M extension, the smaller one has no instruction
+-- if the larger set has an instruction of the M extension, the smaller one has no instruction
 lacking : (w : ℕ) (i : Instr) (o : Option Instr) → decoded w ≡ o → decoded_m w ≡ Some i → is_base i ≡ false → o ≡ None
 lacking w i None d e base = refl
 lacking w i (Some j) d e base =
@@ -32,13 +32,13 @@ all-of : (i : Instr) (b : Bool) → (if b then Some i else Some i) ≡ Some i
 all-of i true = refl
 all-of i false = refl
 
--- the instruction of the set is the one of the larger set, where the set has it
+-- the instruction of the set is that of the larger set, if the set has it
 pub set-read : (isa : Isa) (w : ℕ) (i : Instr) → decoded_m w ≡ Some i → in_set isa i ≡ decoded_as isa w
 unfolding decoded_as in_set
 set-read Rv32i w i e = base-of w i (is_base i) refl e
 set-read Rv32im w i e = all-of i (is_base i) ∙ sym e
 
--- a word that stands for nothing in the larger set stands for nothing in either
+-- a word that encodes nothing in the larger set encodes nothing in either
 unread : (w : ℕ) (o : Option Instr) → decoded w ≡ o → decoded_m w ≡ None → o ≡ None
 unread w None d e = refl
 unread w (Some j) d e = let f : decoded_m w ≡ Some j = read-in-both w j d in cc

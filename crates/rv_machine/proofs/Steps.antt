@@ -1,4 +1,4 @@
--- A flat operation is a step of the machine that needs no stream, and several of them are as many steps.
+-- A flat operation is a step of the machine that needs no stream, and several of them are the same number of steps.
 use Rattle.std.proofs.Common.{◌≡◌, ◌≢◌, ◌∙◌, ℕ, zero, suc, ◌+◌, ◌*◌, ◌-◌, ◌≤◌, ◌%◌, ◌==◌, List, [], Bool, true, false, Option, Some, None, Result, Ok, Err, IsTrue, if◌then◌else◌, refl, ap, sym, subst, arith}
 use Rattle.std.specs.Prelude.{IfSome, ℤ}
 use Rattle.mem_regions.specs.Memory.{Memory}
@@ -36,7 +36,7 @@ use Rattle.rv_machine.proofs.Classes.{op-computes}
 use Rattle.rv_machine.proofs.Finding.{read_from-instruction}
 use Rattle.rv_machine.proofs.Sets.{set-read, set-fits}
 
--- an operation that is known stands for an instruction that has one
+-- a known operation represents an instruction that has one
 flat-is : (o : FlatOp) (rd rs1 rs2 : ℕ) (n : ℤ) → IfSome (instr_with o rd rs1 rs2 n) (λ i. IsTrue (is_flat i))
 flat-is op.Slow rd rs1 rs2 n = tt
 flat-is op.Nop rd rs1 rs2 n = refl
@@ -96,7 +96,7 @@ flat-base Ebreak isa h = absurd (cc)
 flat-base (FenceI rd rs1 imm) isa h = absurd (cc)
 flat-base (Mul op rd rs1 rs2) isa h = absurd (cc)
 
--- what it does is what it does alone
+-- its effect is that of the instruction without streams
 flat-executes : (i : Instr) (h : Hart) (rest : List ℕ) (word : ℕ) → IsTrue (is_flat i) →
     execute (class_of i) h rest word i ≡ beside rest [] (computed_alone h word i)
 unfolding execute
@@ -115,7 +115,7 @@ flat-executes Ebreak h rest word f = absurd (cc)
 flat-executes (FenceI rd rs1 imm) h rest word f = absurd (cc)
 flat-executes (Mul op rd rs1 rs2) h rest word f = absurd (cc)
 
--- an instruction that retires in a hart of which nothing has retired, retires in the same way where more has
+-- an instruction that retires in a hart in which nothing has retired retires in the same way if more has retired
 abbrev hart_with : ℕ → List ℕ → Memory → ℕ → Hart
 hart_with pc regs mem n = record { pc = pc; regs = regs; mem = mem; retired = n }
 
@@ -198,7 +198,7 @@ retires-by mem new pc next n regs later i flat h aligned goes =
           rw (test, read.0, known) (flat-executes i (hart_with pc regs mem n) rest h.word flat ∙ ap (beside rest []) reaches.1);
     }
 
--- where a turn from a spot leads
+-- the address to which a continuation leads from a spot
 abbrev pub turned : Continuation → Spot → ℕ
 turned On spot = word_sum (spot_address spot) 4
 turned (To index) spot = word_sum spot.base (index * 4)
@@ -243,7 +243,7 @@ pub retire-next : (old between new : Hart) (n m : ℕ) → m ≤ n → RetireAlo
 unfolding RetireAlone
 retire-next old between new n m le h step = let e : n + 1 - m ≡ suc (n - m) = omega (arith, le) in rw e (between, h, step)
 
--- some steps, and then some more
+-- some steps, and then more
 retire-on : (a b c : Hart) (n m : ℕ) → RetireAlone a n b → RetireAlone b m c → RetireAlone a (m + n) c
 unfolding RetireAlone
 retire-on a b c n zero h e = let none : zero + n ≡ n = omega arith in rw none (subst (RetireAlone a n) (sym e) h)

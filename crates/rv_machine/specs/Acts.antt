@@ -36,7 +36,8 @@ pub record Retires (outcome : List ℕ → Outcome Machine) (new : Hart) (before
   pub leaves : Leaves before after next.rest next.output
   pub spent : IsSpent before.input next.rest
 
--- a trap or an exit, which leaves all unchanged: the outcome is this on some input that agrees with what is known
+-- a trap or an exit, which leaves everything unchanged: the outcome is this on some input that agrees with what is
+-- known
 pub record StopsUnchanged (outcome : List ℕ → Outcome Machine) (end : Outcome Machine) (old new : Hart)
     (before after : Streams) : Type 0 where
   pub rest : List ℕ
@@ -45,7 +46,7 @@ pub record StopsUnchanged (outcome : List ℕ → Outcome Machine) (end : Outcom
   pub hart : new ≡ old
   pub streams : after ≡ before
 
--- the outcome came about; or a stream failed the instruction, and then `calls` holds
+-- the outcome happened; or a stream failed the instruction, and then `calls` holds
 unfoldable pub Acts : Type 0 → (List ℕ → Outcome Machine) → Hart → Hart → Streams → Streams →
     Stepped → Type 0
 Acts calls outcome old new before after (stepped.Next line) = Retires outcome new before after line
@@ -71,7 +72,7 @@ abbrev pub Steps : Isa → Hart → Hart → Streams → Streams → Stepped →
 Steps isa old new before after result =
     Acts (CallsHere isa old) (step_on isa old) old new before after result
 
--- the call answered: it is this on some input that agrees with what is known
+-- the call answered: the answer is this on some input that agrees with what is known
 pub record Returns (asked : List ℕ → Called) (new : Memory) (before after : Streams)
     (value : ℕ) : Type 0 where
   pub rest : List ℕ
@@ -83,7 +84,7 @@ pub record Returns (asked : List ℕ → Called) (new : Memory) (before after : 
   pub leaves : Leaves before after later added
   pub spent : IsSpent before.input later
 
--- the call ended the program, which leaves all unchanged
+-- the call ended the program, which leaves everything unchanged
 pub record Quits (asked : List ℕ → Called) (status : ℕ) (mem new : Memory)
     (before after : Streams) : Type 0 where
   pub rest : List ℕ
@@ -92,7 +93,7 @@ pub record Quits (asked : List ℕ → Called) (status : ℕ) (mem new : Memory)
   pub memory : new ≡ mem
   pub streams : after ≡ before
 
--- the environment call that the registers ask for came about, or a stream that it uses failed it
+-- the environment call that the registers request happened, or a stream that it uses failed it
 unfoldable pub Serves : List ℕ → Memory → Memory → Streams → Streams → Served → Type 0
 Serves regs mem new before after (served.Value value) =
     Returns (call regs mem) new before after value
@@ -102,7 +103,7 @@ Serves regs mem new before after served.ReadFault = FailsReading regs mem new be
 Serves regs mem new before after served.WriteFault =
     FailsWriting regs mem before after × (new ≡ mem)
 
--- the count is one higher where an instruction retired, and the same otherwise
+-- the count is one higher if an instruction retired, and the same otherwise
 abbrev pub RetiredCounted : ℕ → ℕ → Stepped → Type 0
 RetiredCounted before now (stepped.Next line) = now ≡ before + 1
 RetiredCounted before now (stepped.Trap cause pc detail) = now ≡ before

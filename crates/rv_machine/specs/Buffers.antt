@@ -1,4 +1,4 @@
--- What a read does to its buffer, which lies in memory (a convention of this project).
+-- The effect of a read on its buffer, which is in memory (a convention of this project).
 use Rattle.std.specs.Prelude.{◌≡◌, ◌≤◌, ℕ, List, length, Option}
 use Rattle.cf_io.specs.Takes.{TakesMost}
 use Rattle.mem_regions.specs.Memory.{Memory}

@@ -6,7 +6,7 @@ use Rattle.mem_regions.specs.Ranges.{range_of, can_write}
 use Rattle.mem_regions.specs.Writing.{memory_with}
 use Rattle.rv_inst.specs.Words.{signed_word}
 
--- what a call answers, the memory and the input that it leaves, and the bytes that it adds to the output
+-- the answer of a call, the memory and the input that it leaves, and the bytes that it adds to the output
 pub record CallAnswer : Type 0 where
   pub value : ℕ
   pub mem : Memory
@@ -18,7 +18,7 @@ pub data Called : Type 0 where
   Value : CallAnswer → Called
   Exit : ℕ → Called
 
--- the number of the call that the registers ask for, and its arguments
+-- the number of the call that the registers request, and its arguments
 abbrev pub call_number : List ℕ → ℕ
 call_number regs = slice_index regs 17
 
@@ -35,11 +35,11 @@ third_argument regs = slice_index regs 12
 abbrev pub bad_file : ℕ
 bad_file = signed_word (negsuc 8)
 
--- EFAULT, 14 below zero: the buffer does not lie in memory
+-- EFAULT, 14 below zero: the buffer is not in memory
 abbrev pub bad_address : ℕ
 bad_address = signed_word (negsuc 13)
 
--- ENOSYS, 38 below zero: no call has this number
+-- ENOSYS, 38 below zero: there is no call with this number
 abbrev pub no_such_call : ℕ
 no_such_call = signed_word (negsuc 37)
 
@@ -47,7 +47,7 @@ no_such_call = signed_word (negsuc 37)
 abbrev pub answered_alone : ℕ → Memory → List ℕ → Called
 answered_alone value mem rest = Value (record { value = value; mem = mem; rest = rest; output = [] })
 
--- the first bytes of the rest go to the buffer, as many as the lesser of the two lengths; the answer is their number
+-- the first bytes of the rest go to the buffer, as many as the smaller of the two lengths; the answer is their number
 abbrev pub read_into : ℕ → ℕ → Memory → List ℕ → Called
 read_into addr len mem rest =
     let count = min len (length rest) in
@@ -66,7 +66,7 @@ read fd addr len mem rest =
     if not (can_write mem addr len) then answered_alone bad_address mem rest else
     read_into addr len mem rest
 
--- the bytes of the buffer go to the output, where the buffer lies in memory; the answer is their number
+-- the bytes of the buffer go to the output, if the buffer is in memory; the answer is their number
 abbrev pub write_from : Option (List ℕ) → ℕ → Memory → List ℕ → Called
 write_from None len mem rest = answered_alone bad_address mem rest
 write_from (Some bytes) len mem rest =
@@ -83,15 +83,15 @@ write fd addr len mem rest =
     if len == 0 then answered_alone 0 mem rest else
     write_from (range_of mem addr len) len mem rest
 
--- the heap lies in the lower half of the stack's region, and the break in it or at its end
+-- the heap is in the lower half of the stack's region, and the break is in it or at its end
 abbrev pub is_break : ℕ → Bool
 is_break addr = nat_le 0x7f000000 addr && nat_le addr 0x7f080000
 
--- the memory with its break at the address, where it may be there
+-- the memory with its break at the address, if the break may be there
 unfoldable pub with_break : ℕ → Memory → Memory
 with_break addr mem = if is_break addr then record mem { program_break = addr } else mem
 
--- brk(addr): the break becomes the address, where it may; the answer is the break
+-- brk(addr): the break becomes the address, if it may; the answer is the break
 abbrev pub brk : ℕ → Memory → List ℕ → Called
 brk addr mem rest =
     let moved = with_break addr mem in answered_alone moved.program_break moved rest
@@ -104,7 +104,7 @@ exit status = Exit (status % 256)
 abbrev pub is_exit : ℕ → Bool
 is_exit number = (number == 93) || (number == 94)
 
--- the call that the registers ask for
+-- the call that the registers request
 unfoldable pub call : List ℕ → Memory → List ℕ → Called
 call regs mem rest =
     let number = call_number regs in

@@ -1,4 +1,4 @@
--- What is at an address of memory, and what a cache may keep of it (RISC-V Unprivileged ISA Manual, "Zifencei"
+-- What is at an address of memory, and what a cache may store of it (RISC-V Unprivileged ISA Manual, "Zifencei"
 -- Extension for Instruction-Fetch Fence: stores need not be seen by fetches).
 use Rattle.std.specs.Prelude.{◌≡◌, ◌<◌, ◌≤◌, ◌^◌, ◌/◌, ◌%◌, ◌==◌, ℕ, List, slice_index_or, Bool, true, false, if◌then◌else◌, Option, Some, None, Result, Ok, Err}
 use Rattle.std.specs.List.{All}
@@ -18,7 +18,7 @@ use Rattle.rv_machine.specs.declared.decode_cache.Found.{Found}
 use Rattle.rv_machine.specs.declared.decode_cache.Found.TheVariants as found
 use Rattle.rv_machine.specs.declared.decode_cache.Decoded.{Decoded}
 
--- the word, with the instruction that it stands for
+-- the word, with the instruction that it encodes
 abbrev pub found_as : ℕ → Option Instr → Found
 found_as word None = found.Unknown word
 found_as word (Some i) = found.Instruction word i
@@ -40,19 +40,19 @@ is_instruction (found.Unknown word) = false
 is_instruction found.Nothing = false
 is_instruction found.Misaligned = false
 
--- the trap where it is not one
+-- the trap if it is not an instruction
 abbrev pub trap_of : ℕ → Found → Stepped
 trap_of pc (found.Instruction word i) = stepped.Trap 2 pc word
 trap_of pc (found.Unknown word) = stepped.Trap 2 pc word
 trap_of pc found.Nothing = stepped.Trap 1 pc pc
 trap_of pc found.Misaligned = stepped.Trap 0 pc pc
 
--- an instruction of the M extension, where the set has it
+-- an instruction of the M extension, if the set has it
 abbrev pub if_m : Isa → Instr → Option Instr
 if_m Rv32i i = None
 if_m Rv32im i = Some i
 
--- the instruction, where the set has it
+-- the instruction, if the set has it
 unfoldable pub in_set : Isa → Instr → Option Instr
 in_set isa i = if is_base i then Some i else if_m isa i
 
@@ -60,11 +60,11 @@ in_set isa i = if is_base i then Some i else if_m isa i
 abbrev pub IsEmpty : Decoded → Type 0
 IsEmpty d = 2 ^ 32 ≤ d.address
 
--- what the entry keeps of its address is what memory has there
+-- what the entry stores for its address is what memory has there
 abbrev pub IsKeptOf : Memory → Decoded → Type 0
 IsKeptOf mem d = d.address < 2 ^ 32 → found_at mem d.address ≡ found.Instruction d.word d.instr
 
--- all that the cache keeps is what memory has
+-- all that the cache stores is what memory has
 unfoldable pub IsCacheOf : Memory → List Decoded → Type 0
 IsCacheOf mem places = All (IsKeptOf mem) places
 

@@ -1,4 +1,4 @@
--- What an environment call leaves where one of the streams failed it, and what the streams' counts of faults say of it.
+-- What an environment call leaves if one of the streams failed it, and how the streams count this fault.
 use Rattle.std.specs.Prelude.{◌≡◌, ℕ, List, IsTrue, Some, Result, Ok, Err}
 use Rattle.cf_io.specs.Puts.{WritesFront}
 use Rattle.mem_regions.specs.Memory.{Memory}
@@ -27,21 +27,21 @@ pub record FailsWriting (regs : List ℕ) (mem : Memory) (before after : Streams
   pub output : WritesFront before.output after.output bytes
   pub input : after.input ≡ before.input
 
--- an error where the input failed the call
+-- an error if the input failed the call
 abbrev pub input_served : Served → Result (Unit {0}) (Unit {0})
 input_served served.ReadFault = Err tt
 input_served served.WriteFault = Ok tt
 input_served (served.Value value) = Ok tt
 input_served (served.Exit status) = Ok tt
 
--- an error where the output failed the call
+-- an error if the output failed the call
 abbrev pub output_served : Served → Result (Unit {0}) (Unit {0})
 output_served served.ReadFault = Ok tt
 output_served served.WriteFault = Err tt
 output_served (served.Value value) = Ok tt
 output_served (served.Exit status) = Ok tt
 
--- an error where the input failed the step
+-- an error if the input failed the step
 abbrev pub input_stepped : Stepped → Result (Unit {0}) (Unit {0})
 input_stepped (stepped.Next line) = Ok tt
 input_stepped (stepped.Trap cause pc detail) = Ok tt
@@ -49,7 +49,7 @@ input_stepped (stepped.Exit status) = Ok tt
 input_stepped stepped.ReadFault = Err tt
 input_stepped stepped.WriteFault = Ok tt
 
--- an error where the output failed the step
+-- an error if the output failed the step
 abbrev pub output_stepped : Stepped → Result (Unit {0}) (Unit {0})
 output_stepped (stepped.Next line) = Ok tt
 output_stepped (stepped.Trap cause pc detail) = Ok tt

@@ -1,4 +1,4 @@
--- Flat operations: what each stands for (RISC-V Unprivileged ISA Manual, RV32I and the M extension).
+-- Flat operations and their meaning (RISC-V Unprivileged ISA Manual, RV32I and the M extension).
 use Rattle.std.specs.Prelude.{◌≡◌, ℕ, ◌<◌, ℤ, Bool, true, false, Option, Some, None, IfSome, IsTrue}
 use Rattle.mem_regions.specs.Memory.{Memory}
 use Rattle.rv_inst.specs.declared.instruction.Cond.{Cond}
@@ -20,7 +20,7 @@ use Rattle.rv_machine.specs.declared.flat.Flat.{Flat}
 use Rattle.rv_machine.specs.declared.decode_cache.Found.TheVariants as found
 use Rattle.rv_machine.specs.Decoded.{found_at}
 
--- the instruction with these fields, or none where the operation is left to the slow path
+-- the instruction with these fields, or none if the operation is left to the slow path
 abbrev pub instr_with : FlatOp → ℕ → ℕ → ℕ → ℤ → Option Instr
 instr_with op.Slow rd rs1 rs2 n = None
 instr_with op.Nop rd rs1 rs2 n = Some (OpImm imm.Add 0 rs1 n)
@@ -62,7 +62,7 @@ instr_with op.Sra rd rs1 rs2 n = Some (Op reg.Sra rd rs1 rs2)
 instr_with op.Or rd rs1 rs2 n = Some (Op reg.Or rd rs1 rs2)
 instr_with op.And rd rs1 rs2 n = Some (Op reg.And rd rs1 rs2)
 
--- the instruction that a flat operation stands for
+-- the instruction that a flat operation represents
 abbrev pub instr_of : Flat → Option Instr
 instr_of f = instr_with f.op f.rd f.rs1 f.rs2 f.imm
 
@@ -115,7 +115,7 @@ pub record IsAt (mem : Memory) (pc : ℕ) (i : Instr) : Type 0 where
   pub word : ℕ
   pub is : found_at mem pc ≡ found.Instruction word i
 
--- the operation writes its destination without looking whether that is x0
+-- the operation writes its destination without testing whether it is x0
 abbrev pub writes_plainly : FlatOp → Bool
 writes_plainly op.Slow = false
 writes_plainly op.Nop = false
@@ -132,7 +132,7 @@ writes_plainly op.Sh = false
 writes_plainly op.Sw = false
 writes_plainly _ = true
 
--- where the operation stands for an instruction, memory has it at the address; what it writes is not x0
+-- if the operation represents an instruction, memory has it at the address; what it writes is not x0
 pub record StandsFor (mem : Memory) (pc : ℕ) (f : Flat) : Type 0 where
   pub is : IfSome (instr_of f) (IsAt mem pc)
   pub written : IsTrue (writes_plainly f.op) → 0 < f.rd

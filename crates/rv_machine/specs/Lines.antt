@@ -1,4 +1,4 @@
--- Lines of flat operations, and what they keep of the code in memory.
+-- Lines of flat operations, and what they store of the code in memory.
 use Rattle.std.specs.Prelude.{◌≡◌, ℕ, ◌*◌, ◌/◌, ◌%◌, ◌^◌, ◌<◌, List, [], Bool, nat_lt, slice_index_or, pos}
 use Rattle.std.specs.List.{All}
 use Rattle.mem_regions.specs.Memory.{Memory}
@@ -24,18 +24,18 @@ index_in line pc = word_difference pc line.base / 4
 unfoldable pub covers : FlatLine → ℕ → Bool
 covers line pc = nat_lt (word_difference pc line.base) 1024
 
--- the line begins at an address of a word, and each of its operations stands for what memory has at its address
+-- the line begins at the address of a word, and each of its operations represents what memory has at its address
 pub record IsLineOf (mem : Memory) (line : FlatLine) : Type 0 where
   pub aligned : line.base % 4 ≡ 0
   pub within : line.base < 2 ^ 32
   pub last : flat_at line 256 ≡ no_operation
   pub stand : (j : ℕ) → j < 256 → StandsFor mem (word_sum line.base (j * 4)) (flat_at line j)
 
--- so do those of all lines
+-- the same for all lines
 unfoldable pub AreLinesOf : Memory → List FlatLine → Type 0
 AreLinesOf mem lines = All (IsLineOf mem) lines
 
--- a line of which nothing is known
+-- a line about which nothing is known
 abbrev pub IsBlank : FlatLine → Type 0
 IsBlank line = (line.base % 4 ≡ 0) × (line.base < 2 ^ 32) × ((j : ℕ) → j < 257 → flat_at line j ≡ no_operation)
 

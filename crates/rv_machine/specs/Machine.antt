@@ -1,4 +1,4 @@
--- The sequential machine: a hart, and the outside as the hart sees it.
+-- The sequential machine: a hart, and the outside world as the hart sees it.
 use Rattle.std.specs.Prelude.{ℕ, List, replicate, slice_set}
 use Rattle.mem_regions.specs.Memory.{Memory}
 use Rattle.rv_machine.specs.Hart.{Hart}
@@ -9,7 +9,7 @@ pub record Machine : Type 0 where
   pub rest : List ℕ
   pub output : List ℕ
 
--- the registers at the start: all zero but x2, which points below the top of the stack
+-- the registers at the start: all zero except x2, which points below the top of the stack
 abbrev pub start_regs : List ℕ
 start_regs = slice_set (replicate 32 0) 2 0x7f0ffff0
 

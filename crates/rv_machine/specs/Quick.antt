@@ -25,7 +25,7 @@ abbrev pub is_store : Instr → Bool
 is_store (Store k rs1 rs2 imm) = true
 is_store _ = false
 
--- after it the program goes on at the next word, unless it traps
+-- after it the program continues at the next word, unless it traps
 abbrev pub goes_straight : Instr → Bool
 goes_straight (Jal rd imm) = false
 goes_straight (Jalr rd rs1 imm) = false
@@ -55,7 +55,7 @@ hart_after (Next h line) = Some h
 hart_after (Trap cause pc detail) = None
 hart_after (Exit status) = None
 
--- a hart of which nothing has retired
+-- a hart in which nothing has retired
 abbrev pub hart_of : ℕ → List ℕ → Memory → Hart
 hart_of pc regs mem = record { pc = pc; regs = regs; mem = mem; retired = 0 }
 
@@ -63,21 +63,21 @@ hart_of pc regs mem = record { pc = pc; regs = regs; mem = mem; retired = 0 }
 abbrev pub spot_address : Spot → ℕ
 spot_address spot = word_sum spot.base (spot.at * 4)
 
--- the outcome goes on at this address, with these registers and this memory
+-- the outcome continues at this address, with these registers and this memory
 unfoldable pub LeadsOnTo : Outcome Hart → ℕ → List ℕ → Memory → Type 0
 LeadsOnTo outcome next regs mem = hart_after outcome ≡ Some (record (hart_of next regs mem) { retired = 1 })
 
--- the outcome goes on to this hart
+-- the outcome continues as this hart
 abbrev pub ContinuesAs : Outcome Hart → Hart → Type 0
 ContinuesAs outcome new = (line : Retired) × (outcome ≡ Next new line)
 
--- so it does by a turn from a spot, if it goes on
+-- it continues as given by the continuation from a spot, if it does
 abbrev pub GoesOnward : Continuation → Outcome Hart → Spot → List ℕ → Memory → Type 0
 GoesOnward On outcome spot regs mem = LeadsOnTo outcome (word_sum (spot_address spot) 4) regs mem
 GoesOnward (To index) outcome spot regs mem = LeadsOnTo outcome (word_sum spot.base (index * 4)) regs mem
 GoesOnward Stop outcome spot regs mem = Unit {0}
 
--- so does the instruction, if there is one
+-- the same for the instruction, if there is one
 abbrev pub IsCarriedOut : Continuation → Option Instr → Hart → Spot → List ℕ → Memory → Type 0
 IsCarriedOut turn None h spot regs mem = turn ≡ Stop
 IsCarriedOut turn (Some i) h spot regs mem = GoesOnward turn (computed_alone h 0 i) spot regs mem
@@ -87,7 +87,7 @@ pub record RetiresAlone (old new : Hart) : Type 0 where
   pub line : Retired
   pub is : (isa : Isa) (rest : List ℕ) → step_on isa old rest ≡ Next (record { hart = new; rest = rest; output = [] }) line
 
--- so do n instructions, one after another
+-- the same for n instructions, one after another
 unfoldable pub RetireAlone : Hart → ℕ → Hart → Type 0
 RetireAlone old zero new = new ≡ old
 RetireAlone old (suc n) new = (between : Hart) × RetireAlone old n between × RetiresAlone between new

@@ -38,15 +38,15 @@ retire h word next r v = Next
 abbrev pub register_value : List ℕ → ℕ → ℕ
 register_value regs r = if r == 0 then 0 else slice_index regs r
 
--- the values of the two sources; x0 stands for a source that the instruction does not have
+-- the values of the two sources; x0 is used for a source that the instruction does not have
 abbrev pub first_value : Hart → Instr → ℕ
 first_value h i = register_value h.regs (sources_of i).0
 
 abbrev pub second_value : Hart → Instr → ℕ
 second_value h i = register_value h.regs (sources_of i).1
 
--- arithmetic, products and quotients, branches and jumps: a target that is not a multiple of 4 is a trap of the
--- instruction that jumps
+-- arithmetic, products and quotients, branches and jumps: a target that is not a multiple of 4 is a trap of the jump or
+-- branch itself
 unfoldable pub compute : Hart → ℕ → Instr → Outcome Hart
 compute h word i =
     let a = first_value h i in
@@ -81,17 +81,17 @@ abbrev pub breaks : Instr → Bool
 breaks Ebreak = true
 breaks _ = false
 
--- FENCE orders what a single hart has in order anyway; EBREAK is a trap
+-- FENCE orders accesses that a single hart keeps in order anyway; EBREAK is a trap
 unfoldable pub pass : Hart → ℕ → Instr → Outcome Hart
 pass h word i = if breaks i then Trap 3 h.pc h.pc else retire h word (word_sum h.pc 4) 0 0
 
--- the hart's outcome as the machine's, with what the input has left and the bytes that went to the output
+-- the hart's outcome as the machine's, with the rest of the input and the bytes that went to the output
 abbrev pub beside : List ℕ → List ℕ → Outcome Hart → Outcome Machine
 beside rest output (Next h line) = Next (record { hart = h; rest = rest; output = output }) line
 beside rest output (Trap cause pc detail) = Trap cause pc detail
 beside rest output (Exit status) = Exit status
 
--- ECALL: what the call answers goes to x10
+-- ECALL: the call's answer goes to x10
 abbrev pub environment : Hart → ℕ → Called → Outcome Machine
 environment h word (called.Value a) =
     beside a.rest a.output (retire (record h { mem = a.mem }) word (word_sum h.pc 4) 10 a.value)
@@ -127,7 +127,7 @@ execute class.Free h rest word i = beside rest [] (pass h word i)
 execute class.Mul h rest word i = beside rest [] (compute h word i)
 execute class.Div h rest word i = beside rest [] (compute h word i)
 
--- the instruction that the word stands for
+-- the instruction that the word encodes
 abbrev pub interpret : Hart → List ℕ → ℕ → Option Instr → Outcome Machine
 interpret h rest word None = Trap 2 h.pc word
 interpret h rest word (Some i) = execute (class_of i) h rest word i
@@ -137,12 +137,12 @@ abbrev pub step_fetched : Isa → Hart → List ℕ → Result ℕ MemErr → Ou
 step_fetched isa h rest (Ok word) = interpret h rest word (decoded_as isa word)
 step_fetched isa h rest (Err e) = Trap 1 h.pc h.pc
 
--- what a hart does next, where the input has these bytes left; the output is that of this step
+-- what a hart does next, if the input has these bytes left; the output is that of this step
 unfoldable pub step_on : Isa → Hart → List ℕ → Outcome Machine
 step_on isa h rest =
     if h.pc % 4 == 0 then step_fetched isa h rest (fetch_at h.mem h.pc) else Trap 0 h.pc h.pc
 
--- the output of a step comes after that of the steps before
+-- the output of a step comes after that of the earlier steps
 abbrev pub after_output : List ℕ → Outcome Machine → Outcome Machine
 after_output output (Next m line) = Next (record m { output = output ++ m.output }) line
 after_output output (Trap cause pc detail) = Trap cause pc detail

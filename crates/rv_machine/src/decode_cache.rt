@@ -1,4 +1,4 @@
-//! Instructions that were decoded before.
+//! Instructions that were decoded earlier.
 #![tactic(auto, unfolding(crate::specs::Decoded::found_at))]
 
 ghost use Rattle.std.specs.Prelude.{◌≡◌, ◌<◌, false, IsTrue, IfSome, IfNone};
@@ -14,16 +14,16 @@ const PLACES: usize = 4096;
 /// What is at an address.
 #[derive(Clone, Copy)]
 pub(crate) enum Found {
-    /// A word, and the instruction of RV32IM that it stands for.
+    /// A word, and the instruction of RV32IM that it encodes.
     Instruction { word: u32, instr: Instr },
 
-    /// A word that stands for no instruction.
+    /// A word that does not encode an instruction.
     Unknown(u32),
 
     /// Nothing that can be fetched.
     Nothing,
 
-    /// Nothing, since 4 does not divide the address.
+    /// Nothing, since the address is not a multiple of 4.
     Misaligned,
 }
 
@@ -99,7 +99,7 @@ impl DecodeCache {
         self.places[place_of(pc)].address == u64::from(pc)
     }
 
-    /// Decodes and keeps the instruction at the address, if there is one.
+    /// Decodes and stores the instruction at the address, if there is one.
     #[inline(never)]
     #[tactic(auto, using(crate::proofs::Keeping::keeping))]
     fn keep(&mut self, mem: &Regions, pc: u32) -> bool
@@ -121,7 +121,7 @@ impl DecodeCache {
         }
     }
 
-    /// Whether an instruction is at the address; the cache then has it.
+    /// Whether there is an instruction at the address; if so, the cache has it afterwards.
     #[inline(always)]
     #[tactic(auto, using(crate::proofs::Keeping::having))]
     fn comes_to_have(&mut self, mem: &Regions, pc: u32) -> bool
@@ -133,7 +133,7 @@ impl DecodeCache {
         self.has(pc) || self.keep(mem, pc)
     }
 
-    /// The instruction at the address, if there is one. It is read from the cache even where it has just been decoded,
+    /// The instruction at the address, if there is one. It is read from the cache even if it has just been decoded,
     /// which keeps the rare path out of the hot loop.
     #[inline(always)]
     #[tactic(auto, using(crate::proofs::Keeping::keeping))]

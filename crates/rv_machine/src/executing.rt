@@ -1,4 +1,4 @@
-//! What an instruction that needs neither the input nor the output does to the machine, by its class.
+//! The effect on the machine of an instruction that needs neither the input nor the output, by its class.
 #![tactic(auto, unfolding(crate::specs::Step::retire, crate::specs::Step::compute, crate::specs::Step::access_memory, crate::specs::Step::pass))]
 
 ghost use Rattle.std.specs.Prelude.{◌≡◌, ◌+◌, ◌<◌, ◌^◌, length, true, IsTrue};
@@ -38,7 +38,7 @@ pub(crate) fn write_register(regs: &mut [u32; 32], r: u8, value: u32)
 }
 
 impl Machine {
-    /// The instruction of this word retires: the register gets the value, and the program goes on at `next`.
+    /// The instruction of this word retires: the register gets the value, and the program continues at `next`.
     #[inline(always)]
     pub(crate) fn retire(&mut self, word: u32, next: u32, reg: u8, value: u32) -> Stepped
         requires register { reg < 32 }
@@ -82,7 +82,7 @@ impl Machine {
         (self.regs[first as usize], self.regs[second as usize])
     }
 
-    /// An instruction that computes. A next address that 4 does not divide traps.
+    /// An instruction that computes. It traps if its next address is not a multiple of 4.
     #[inline(always)]
     pub(crate) fn compute(&mut self, word: u32, i: Instr) -> Stepped
         requires fits { Fits i }
@@ -99,7 +99,7 @@ impl Machine {
         self.retire(word, next, dest(i), value(i, self.pc, a, b))
     }
 
-    /// A load, from where `access` says.
+    /// A load from where `access` says.
     #[inline(always)]
     fn load(&mut self, word: u32, i: Instr, access: Access) -> Stepped
         requires fits { Fits i }
@@ -118,7 +118,7 @@ impl Machine {
         }
     }
 
-    /// A store, as `access` says.
+    /// A store to where `access` says.
     #[inline(always)]
     #[tactic(auto, using(crate::proofs::Keeping::still, crate::proofs::Lines::still_lines), unfolding(crate::specs::Step::retire))]
     fn store(&mut self, word: u32, access: Access) -> Stepped

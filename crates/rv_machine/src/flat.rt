@@ -5,11 +5,11 @@ ghost use Rattle.rv_machine.specs.Flat.{instr_of, branch_op, load_op, store_op, 
 
 use rv_inst::{Cond, ImmOp, Instr, LoadKind, RegOp, StoreKind};
 
-/// What a flat operation does: one case for each instruction, by the manual's name, and one for all that is left to
-/// [`Machine::step`](crate::Machine::step).
+/// What a flat operation does: one case for each instruction, by the manual's name, and one for everything that is left
+/// to [`Machine::step`](crate::Machine::step).
 #[derive(Clone, Copy, PartialEq, Eq)]
 pub(crate) enum FlatOp {
-    /// Not known here.
+    /// Unknown here.
     Slow,
     /// ADDI of x0.
     Nop,
@@ -52,7 +52,7 @@ pub(crate) enum FlatOp {
     And,
 }
 
-/// An operation with its fields; those that its instruction does not have are 0.
+/// An operation with its fields; fields that its instruction does not have are 0.
 #[derive(Clone, Copy, PartialEq, Eq)]
 pub(crate) struct Flat {
     pub(crate) op: FlatOp,
@@ -62,7 +62,7 @@ pub(crate) struct Flat {
     pub(crate) imm: i32,
 }
 
-/// An operation that is not known.
+/// An unknown operation.
 pub(crate) const SLOW: Flat = Flat {
     op: FlatOp::Slow,
     rd: 0,
@@ -139,7 +139,7 @@ fn reg_op(op: RegOp) -> FlatOp
     }
 }
 
-/// The operation with the instruction's own name, or `SLOW` where there is none.
+/// The operation with the instruction's own name, or `SLOW` if there is none.
 #[tactic(auto, using(crate::proofs::Flattening::flattening))]
 fn named(i: Instr) -> Flat
     ensures { IfSome (instr_of result) (λ j. j ≡ i) }
@@ -223,7 +223,7 @@ fn named(i: Instr) -> Flat
     }
 }
 
-/// Whether the operation writes its destination without looking whether that is x0.
+/// Whether the operation writes its destination without testing whether it is x0.
 fn writes(op: FlatOp) -> bool
     ensures { result ≡ writes_plainly op }
 {
@@ -270,7 +270,8 @@ fn writes(op: FlatOp) -> bool
     }
 }
 
-/// The operation that stands for the instruction, or `SLOW` where none does: of those that write x0 only ADDI has one.
+/// The operation that represents the instruction, or `SLOW` if none does: of the instructions that write x0 only ADDI
+/// has one.
 #[tactic(auto, using(crate::proofs::Flattening::sparing))]
 pub(crate) fn flatten(i: Instr) -> Flat
     ensures is { IfSome (instr_of result) (λ j. j ≡ i) }

@@ -1,4 +1,4 @@
-//! What a flat operation does: its operation is known where it is compiled, so that no field is looked at twice.
+//! What a flat operation does: the operation is known at compile time, so that no field is tested twice.
 
 ghost use Rattle.std.specs.Prelude.{◌≡◌, ◌%◌, ◌<◌, ◌*◌, slice_index, IfSome, IsTrue};
 ghost use Rattle.mem_regions.specs.Access.{IsWidth, bounds_of};
@@ -29,10 +29,10 @@ pub(crate) struct Spot {
     pub(crate) at: usize,
 }
 
-/// How many words there are addresses for.
+/// The number of words in the address space.
 const WORDS: usize = 1 << 30;
 
-/// Where the program goes on after an operation.
+/// Where the program continues after an operation.
 #[derive(Clone, Copy)]
 pub(crate) enum Continuation {
     /// At the next word.
@@ -91,7 +91,7 @@ fn set_register(regs: &mut [u32; 32], r: u8, value: u32)
     regs[r as usize] = value;
 }
 
-/// An instruction that computes, and after which the program goes on at the next word.
+/// An instruction that computes, after which the program continues at the next word.
 #[inline(always)]
 #[tactic(auto, using(crate::proofs::Quick::straight))]
 fn computed(i: Instr, spot: Spot, regs: &mut [u32; 32], mem: &Regions) -> Continuation
@@ -123,7 +123,7 @@ fn passed(i: Instr, spot: Spot, regs: &[u32; 32], mem: &Regions) -> Continuation
     Continuation::On
 }
 
-/// A jump; there is no answer where it traps.
+/// A jump; `Stop` if it traps.
 #[inline(always)]
 #[tactic(auto, unfolding(crate::specs::Step::retire, crate::specs::Step::compute, crate::specs::Quick::LeadsOnTo))]
 fn jumped(i: Instr, spot: Spot, regs: &mut [u32; 32], mem: &Regions) -> Continuation
@@ -144,8 +144,8 @@ fn jumped(i: Instr, spot: Spot, regs: &mut [u32; 32], mem: &Regions) -> Continua
     Continuation::To(spot.index(next))
 }
 
-/// A branch; there is no answer where it traps.
-// Where it goes is read only once it is taken.
+/// A branch; `Stop` if it traps.
+// The target is computed only if the branch is taken.
 #[inline(always)]
 #[tactic(auto, using(crate::proofs::Quick::branching))]
 fn branched(f: &Flat, cond: Cond, spot: Spot, regs: &[u32; 32], mem: &Regions) -> Continuation
@@ -168,7 +168,7 @@ fn branched(f: &Flat, cond: Cond, spot: Spot, regs: &[u32; 32], mem: &Regions) -
     Continuation::To(spot.index(spot.pc().wrapping_add(distance)))
 }
 
-/// A load; there is no answer where it traps.
+/// A load; `Stop` if it traps.
 #[inline(always)]
 #[tactic(auto, using(crate::proofs::Quick::loading))]
 fn loaded(i: Instr, spot: Spot, regs: &mut [u32; 32], mem: &Regions, window: Window) -> Continuation
@@ -194,7 +194,7 @@ fn loaded(i: Instr, spot: Spot, regs: &mut [u32; 32], mem: &Regions, window: Win
     }
 }
 
-/// A store; there is no answer where it traps.
+/// A store; `Stop` if it traps.
 #[inline(always)]
 #[tactic(auto, using(crate::proofs::Quick::storing), unfolding(crate::specs::Step::retire, crate::specs::Step::access_memory, crate::specs::Quick::LeadsOnTo))]
 fn stored(i: Instr, spot: Spot, regs: &[u32; 32], mem: &mut Regions, window: Window) -> Continuation
@@ -267,8 +267,8 @@ impl Flat {
     }
 }
 
-/// Does what the operation says at this address; there is no answer where it is not known or traps. The registers and the
-/// memory are then unchanged.
+/// Does what the operation says at this address; returns `Stop` if the operation is unknown or traps. The registers and
+/// the memory are then unchanged.
 #[inline(always)]
 #[tactic(auto, using(crate::proofs::Classes::computing, crate::proofs::Quick::storing))]
 pub(crate) fn act(

@@ -1,4 +1,4 @@
-//! Lines of flat operations: the code that was executed last, 256 words a line.
+//! Lines of flat operations: the code that was executed last, with 256 words in a line.
 
 ghost use Rattle.std.specs.Prelude.{◌≡◌, ◌<◌, ◌/◌, ◌%◌, ◌^◌, ◌⊎◌, IsTrue, IfSome, length, slice_index_or, slice_set};
 ghost use Rattle.std.specs.List.{All};
@@ -10,21 +10,21 @@ use crate::flat::{Flat, FlatOp, SLOW, flatten};
 use crate::flat_acting::Spot;
 use mem_regions::Regions;
 
-/// How many lines there are: enough for 32 KiB of code.
+/// The number of lines: enough for 32 KiB of code.
 const LINES: usize = 32;
 
-/// How many operations a line has: the words of 1 KiB.
+/// The number of operations of a line: the words of 1 KiB.
 const OPS: usize = 256;
 
-/// The operations of the 256 words from an address on, which 1024 divides.
+/// The operations of the 256 words from an address on, which is a multiple of 1024.
 #[derive(Clone, Copy)]
 pub(crate) struct FlatLine {
     pub(crate) base: u32,
-    // One more, which is never known, so that none is looked for behind the last.
+    // One more, which is never known, so that none is looked for after the last.
     pub(crate) ops: [Flat; 257],
 }
 
-/// A line of which nothing is known.
+/// A line about which nothing is known.
 const BLANK: FlatLine = FlatLine {
     base: 0,
     ops: [SLOW; OPS + 1],
@@ -92,7 +92,7 @@ impl FlatLine {
     }
 }
 
-/// A line that has the word at the address, and of which nothing is known.
+/// A line that has the word at the address, and about which nothing is known.
 #[tactic(auto, using(crate::proofs::Lines::beginning))]
 fn blank(pc: u32) -> FlatLine
     ensures covers { IsTrue (covers result pc) }
@@ -104,7 +104,7 @@ fn blank(pc: u32) -> FlatLine
     }
 }
 
-/// The line, or a blank one where it is of another block.
+/// The line, or a blank one if it is of another block.
 fn begun(line: &FlatLine, pc: u32) -> FlatLine
     ensures covers { IsTrue (covers result pc) }
     ensures kept { (IsBlank result) ⊎ (result ≡ line.now) }
@@ -146,7 +146,7 @@ fn place_of(pc: u32) -> usize
 }
 
 impl FlatLines {
-    /// Lines of which nothing is known.
+    /// Lines about which nothing is known.
     pub(crate) fn new() -> FlatLines
         ensures { All IsBlank result.lines }
     {
@@ -171,7 +171,7 @@ impl FlatLines {
         &self.lines[place_of(pc)]
     }
 
-    /// Finds out the operation at the address.
+    /// Determines the operation at the address.
     #[inline(never)]
     #[tactic(auto, using(crate::proofs::Lines::preparing, crate::proofs::Lines::covering))]
     fn learn(&mut self, mem: &Regions, pc: u32)
@@ -184,7 +184,7 @@ impl FlatLines {
         self.lines[place_of(pc)] = learned(line, mem, pc);
     }
 
-    /// Finds out the operation at the address, where it is not known.
+    /// Determines the operation at the address, if it is unknown.
     #[inline(always)]
     #[tactic(auto, unfolding(crate::specs::Lines::cover))]
     pub(crate) fn prepare(&mut self, mem: &Regions, pc: u32)

@@ -7,7 +7,7 @@ ghost use Rattle.rv_machine.specs.Decoded.{if_m, in_set};
 
 use rv_inst::{Instr, Isa};
 
-/// An instruction of the M extension, where the set has it.
+/// An instruction of the M extension, if the set has it.
 #[inline(always)]
 fn if_m(isa: Isa, i: Instr) -> Option<Instr>
     ensures { result ≡ if_m isa i }
@@ -18,7 +18,7 @@ fn if_m(isa: Isa, i: Instr) -> Option<Instr>
     }
 }
 
-/// The instruction, where the set has it.
+/// The instruction, if the set has it.
 #[inline(always)]
 #[tactic(auto, unfolding(crate::specs::Decoded::in_set))]
 fn in_set(isa: Isa, i: Instr) -> Option<Instr>
@@ -30,7 +30,7 @@ fn in_set(isa: Isa, i: Instr) -> Option<Instr>
     }
 }
 
-/// The instruction that the word stands for, where the set has it.
+/// The instruction that the word encodes, if the set has it.
 #[inline(always)]
 #[tactic(auto, using(crate::proofs::Sets::sets))]
 pub(crate) fn read_in(isa: Isa, word: u32, i: Instr) -> Option<Instr>

@@ -97,7 +97,7 @@ impl Machine {
         self.retired
     }
 
-    /// Takes the machine apart.
+    /// The parts of the machine.
     pub fn into_parts(self) -> MachineParts
         ensures parts { record { pc = result.pc; regs = result.regs; mem = result.mem; retired = result.retired } ≡ self }
         ensures zero { slice_index result.regs 0 ≡ 0 }

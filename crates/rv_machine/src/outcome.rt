@@ -9,10 +9,10 @@ pub struct Retired {
     /// The word that it was decoded from.
     pub word: u32,
 
-    /// The register that was written, 0 where none was.
+    /// The register that was written, or 0 if none was.
     pub reg: u8,
 
-    /// What was written there, 0 where nothing was.
+    /// What was written there, or 0 if nothing was.
     pub value: u32,
 }
 

@@ -18,16 +18,16 @@ struct Progress {
     retired: u64,
 }
 
-/// How many operations a line has.
+/// The number of operations of a line.
 const OPS: u64 = 256;
 
-/// The highest limit in a line: the sums with the operations of a line then stay in range.
+/// The maximum limit in a line: the sums with the operations of a line then stay in range.
 const HIGHEST: u64 = u64::MAX - 2 * OPS;
 
-/// Executes the operations of a line, until one is not known or traps, the program leaves the line, or `end` could be
+/// Executes the operations of a line, until one is unknown or traps, the program leaves the line, or `end` could be
 /// passed before the end of the line.
-// Neither the count nor the limit changes between two jumps: what counts is how many will have retired at the end of the
-// line. It and the index are values of their own, so that they need not be in memory.
+// Neither the count nor the limit changes between two jumps: what counts is how many instructions will have retired at
+// the end of the line. This number and the index are separate values, so that they need not be in memory.
 #[inline(always)]
 fn run_line(
     line: &FlatLine,

@@ -16,13 +16,14 @@ use mem_regions::Regions;
 /// EBADF: no such file is open.
 const BAD_FILE: u32 = 0xffff_fff7;
 
-/// EFAULT: the buffer does not lie in memory.
+/// EFAULT: the buffer is not in memory.
 const BAD_ADDRESS: u32 = 0xffff_fff2;
 
-/// ENOSYS: no call has this number.
+/// ENOSYS: there is no call with this number.
 const NO_SUCH_CALL: u32 = 0xffff_ffda;
 
-/// Takes bytes to the start of the buffer until it is full or the input is at its end, and returns how many.
+/// Moves bytes from the input to the start of the buffer until it is full or the input is at its end, and returns how
+/// many.
 fn fill<S: Source>(mem: &mut Regions, addr: u32, len: u32, input: &mut S) -> Result<usize, Failed>
     requires { IsTrue (can_write mem.old addr len) }
     ensures ok { IfOk result (λ n.
@@ -98,7 +99,7 @@ fn is_exit(number: u32) -> bool
     number == 93 || number == 94
 }
 
-/// brk(addr): moves the break to the address where that is allowed, and returns the break.
+/// brk(addr): moves the break to the address if that is allowed, and returns the break.
 #[tactic(auto, unfolding(crate::specs::Call::with_break))]
 fn move_break(mem: &mut Regions, addr: u32) -> u32
     ensures memory { mem.new ≡ with_break addr mem.old }
@@ -113,10 +114,10 @@ fn move_break(mem: &mut Regions, addr: u32) -> u32
 
 /// Answers one environment call: its number is in x17, its arguments are in x10 and the registers after it.
 ///
-/// 63 and 64 (`read` and `write`) move bytes from the input (file 0) and to the output (files 1 and 2), to and from the
-/// buffer itself. A read asks the input until the buffer is full or the input is at its end. 93 and 94 (`exit` and
+/// 63 and 64 (`read` and `write`) move bytes from the input (file 0) and to the output (files 1 and 2), directly to and
+/// from the buffer. A read asks the input until the buffer is full or the input is at its end. 93 and 94 (`exit` and
 /// `exit_group`) end the program with the low eight bits of x10. 214 (`brk`) moves the program break within the heap
-/// and answers it. Any other number is answered with -38. The numbers and the errors are those of Linux on RISC-V.
+/// and returns it. Any other number returns -38. The numbers and the errors are those of Linux on RISC-V.
 ///
 /// After `ReadFault` the bytes taken so far are at the start of the buffer, and its old bytes follow them; after
 /// `WriteFault` a prefix of the buffer's bytes was written.

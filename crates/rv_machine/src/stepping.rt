@@ -30,7 +30,7 @@ impl Machine {
         self.cache.find(&self.mem, self.pc)
     }
 
-    /// The trap where there is not an instruction.
+    /// The trap if there is no instruction.
     #[inline(always)]
     fn stop(&self) -> Stepped
         ensures { result ≡ trap_of self.now.pc (found_at self.now.mem self.now.pc) }
@@ -84,7 +84,7 @@ impl Machine {
         }
     }
 
-    /// Executes the instruction of a word, or traps where the set does not have it.
+    /// Executes the instruction of a word, or traps if the set does not have it.
     #[inline(always)]
     fn interpret<S: Source, K: Sink>(
         &mut self,

@@ -1,4 +1,4 @@
--- What the machine's arithmetic on 32 and 64 bits makes of products, quotients and remainders.
+-- Products, quotients and remainders in the machine's arithmetic on 32 and 64 bits.
 use Rattle.std.proofs.Common.{◌≡◌, ℕ, zero, suc, ◌-◌, ◌/◌, ◌%◌, ◌^◌, ◌<◌, ◌≤◌, ℤ, pos, negsuc, neg_ℤ, ◌*ℤ◌, unsigned_abs, int_div, FitsSigned, refl, ◌∙◌, ap, arith, lit<}
 use Rattle.std.specs.Int.{Width, w32, w64, cast_signed, cast_unsigned, int_wrapping_div}
 use Rattle.std.proofs.lemmas.Int.{to_z-of_z, of_z-to_z, fits_signed_mul}
@@ -44,7 +44,7 @@ abs_neg : (n : ℕ) → unsigned_abs (neg_ℤ (pos n)) ≡ n
 abs_neg zero = refl
 abs_neg (suc n) = refl
 
--- a quotient is not larger in size than what is divided
+-- the magnitude of a quotient is at most that of the dividend
 quotient_size : (a b : ℤ) → unsigned_abs (int_div a b) ≤ unsigned_abs a
 quotient_size (pos a) (pos b) = div-le_self a b
 quotient_size (pos a) (negsuc b) = rw abs_neg (div-le_self a (suc b))
@@ -70,7 +70,7 @@ quotient_bits a b q e f g =
 fits_wider : (z : ℤ) → FitsSigned w32 z → FitsSigned w64 z
 fits_wider z h = record { sfits = omega (arith, h.sfits) }
 
--- a product of a signed word and a word of either reading fits 64 bits
+-- the product of a signed word and a word, signed or unsigned, fits 64 bits
 product_fits : (a b : ℤ) → unsigned_abs a ≤ 2 ^ 31 → unsigned_abs b < 2 ^ 32 → FitsSigned w64 (a *ℤ b)
 product_fits a b h k = fits_signed_mul w64 a b (2 ^ 31) (2 ^ 32 - 1) h (omega arith) (lit< tt)
 
@@ -84,7 +84,7 @@ high_bits a b x y p q f g h =
     ∙ ap (λ z. cast_unsigned w64 z / 2 ^ 32) (to_z-of_z w64 (a *ℤ b) h)
     ∙ upper_word_of_bits (a *ℤ b) h
 
--- the same where both factors are signed words
+-- the same if both factors are signed words
 pub high_bits_signed : (a b x y : ℤ) → x ≡ held w32 a → y ≡ held w32 b
     → FitsSigned w32 a → FitsSigned w32 b
     → cast_unsigned w64 (held w64 (held w64 x *ℤ held w64 y)) / 2 ^ 32 ≡ upper_word (a *ℤ b)
@@ -92,7 +92,7 @@ high_bits_signed a b x y p q f g =
     high_bits a b x y (p ∙ to_z-of_z w32 a f) (q ∙ to_z-of_z w32 b g) (fits_wider a f) (fits_wider b g)
     (product_fits a b (size_of_word a f) (omega (arith, size_of_word b g)))
 
--- the same where the second factor is an unsigned word
+-- the same if the second factor is an unsigned word
 pub high_bits_mixed : (a x : ℤ) (b : ℕ) (y : ℤ) → x ≡ held w32 a → y ≡ pos b
     → FitsSigned w32 a → b < 2 ^ 32
     → cast_unsigned w64 (held w64 (held w64 x *ℤ held w64 y)) / 2 ^ 32 ≡ upper_word (a *ℤ pos b)

@@ -1,4 +1,4 @@
--- The relation of division has one answer, and `quotient` and `remainder` give it.
+-- The relation of division has one answer, and `quotient` and `remainder` return it.
 use Rattle.std.proofs.Common.{◌≡◌, ◌≢◌, true, false, ℕ, zero, suc, ◌+◌, ◌*◌, ◌/◌, ◌%◌, ◌<◌, ◌⊎◌, inl, inr, ℤ, pos, negsuc, neg_ℤ, ◌+ℤ◌, ◌*ℤ◌, unsigned_abs, refl, sym, ◌∙◌, ap, arith}
 use Rattle.std.specs.Int.{is_negative}
 use Rattle.std.proofs.lemmas.Int.{ints, quot-rem, rem_below}
@@ -32,7 +32,7 @@ one_division_of : (a b k c : ℕ) → a ≡ k * b + c → c < b → (k ≡ a / b
 one_division_of a b k c e h =
     (sym (div-mul-add k b c h) ∙ ap (λ n. n / b) (sym e), sym (mod-mul-add k b c h) ∙ ap (λ n. n % b) (sym e))
 
--- the same for integers, by the signs of what is divided and of the divisor
+-- the same for integers, by the signs of the dividend and of the divisor
 one_pos_pos : (a b c : ℕ) (q : ℤ) → pos a ≡ q *ℤ pos b +ℤ pos c
     → c < b → (q ≡ pos (a / b)) × (c ≡ a % b)
 one_pos_pos a b c (pos k) e h =

@@ -29,8 +29,8 @@ quotient x y = int_div x y
 abbrev pub remainder : ℤ → ℤ → ℤ
 remainder x y = int_rem x y
 
--- the result of an operation on the words a and b: MULH, DIV and REM read both as signed numbers, MULHSU the first
--- alone, the others neither; a quotient by 0 is 2 ^ 32 - 1, and a remainder by 0 is a
+-- the result of an operation on the words a and b: MULH, DIV and REM read both as signed numbers, MULHSU only the
+-- first, the others neither; a quotient by 0 is 2 ^ 32 - 1, and a remainder by 0 is a
 unfoldable pub product_of : MulOp → ℕ → ℕ → ℕ
 product_of mulop.Mul a b = lower_word (pos a *ℤ pos b)
 product_of mulop.Mulh a b = upper_word (signed a *ℤ signed b)

@@ -1,4 +1,4 @@
-//! What an instruction of RV32IM computes of its address and its sources.
+//! What an instruction of RV32IM computes from its address and its sources.
 #![tactic(auto, unfolding(crate::specs::Values::value_of))]
 
 ghost use Rattle.std.specs.Prelude.{◌≡◌, IsTrue};
@@ -8,8 +8,8 @@ ghost use Rattle.rv_mul.specs.Values.{computes, value_of};
 use crate::products::product;
 use rv_inst::{Instr, alu};
 
-/// The value that the instruction at `pc` gives its destination, where its first source has the value `a` and its
-/// second has `b`. It is 0 for a branch, which has no destination.
+/// The value that the instruction at `pc` gives its destination, if its first source has the value `a` and its second
+/// has `b`. It is 0 for a branch, which has no destination.
 #[inline(always)]
 pub fn value(i: Instr, pc: u32, a: u32, b: u32) -> u32
     requires computing { IsTrue (computes (class_of i)) }

@@ -1,11 +1,11 @@
--- What is between commas, one piece after the other.
+-- The pieces between commas, one after another.
 use Rattle.std.proofs.Common.{◌≡◌, ℕ, ◌+◌, Bool, true, false, List, [], ◌∷◌, get_or, refl, sym, ◌∙◌, ap, arith, cond, suc, zero, take, drop}
 use Rattle.std.specs.Prelude.{slice_index_or, not}
 use Rattle.std.specs.List.{slice_split, onto_first, after_first, position_or_len}
 use Rattle.std.proofs.lemmas.List.Splits.{length-slice_split}
 use Rattle.std.proofs.lemmas.Grind.{common_steps}
 
--- the parts after the first are unchanged when an element is put onto the first
+-- the parts after the first are unchanged when an element is prepended to the first
 onto_first-after : (x : ℕ) (parts : List (List ℕ)) (k : ℕ) → get_or (onto_first x parts) (suc k) [] ≡ get_or parts (suc k) []
 onto_first-after x [] zero = refl
 onto_first-after x [] (suc k) = refl
@@ -44,7 +44,7 @@ pub first_piece : (p : ℕ → Bool) (xs : List ℕ) → take (position_or_len p
 first_piece p [] = refl
 first_piece p (x ∷ xs) = first_by (p x) (position_or_len p xs) x xs (slice_split p xs) (first_piece p xs)
 
--- the same, where the indices are counted from some piece on
+-- the same with the indices counted from some piece on
 pub next_piece : (p : ℕ → Bool) (xs : List ℕ) (whole : List (List ℕ)) (n : ℕ)
     → ((k : ℕ) → slice_index_or (slice_split p xs) k [] ≡ slice_index_or whole (k + n) [])
     → (k : ℕ) → slice_index_or (slice_split p (after_first p xs)) k [] ≡ slice_index_or whole (k + (n + 1)) []

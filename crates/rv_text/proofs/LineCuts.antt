@@ -1,4 +1,4 @@
--- The first line is taken off a text.
+-- The first line is split off a text.
 use Rattle.std.proofs.Common.{◌≡◌, ℕ, ◌+◌, ◌<◌, ◌≤◌, Bool, true, false, List, [], ◌∷◌, length, take, drop, refl, ◌∙◌, ap, arith, cond, suc}
 use Rattle.std.specs.Prelude.{not}
 use Rattle.std.specs.List.{slice_split, onto_first, position_or_len, before_first, after_first}
@@ -11,7 +11,7 @@ uncut_by : (b : Bool) (n : ℕ) (x : ℕ) (xs : List ℕ) (parts : List (List �
 uncut_by true n x xs parts ih h = absurd (omega arith)
 uncut_by false n x xs parts ih h = ap (onto_first x) (ih (omega arith))
 
--- where no element is a separator, the list is the one piece
+-- if no element is a separator, the list is the only piece
 pub uncut : (p : ℕ → Bool) (xs : List ℕ) → length xs ≤ position_or_len p xs → slice_split p xs ≡ xs ∷ []
 uncut p [] h = refl
 uncut p (x ∷ xs) h = uncut_by (p x) (position_or_len p xs) x xs (slice_split p xs) (uncut p xs) h

@@ -15,7 +15,7 @@ and-true : (a b : Bool) → (a && b) ≡ true → (a ≡ true) × (b ≡ true)
 and-true true b h = (refl, h)
 and-true false b h = absurd (false≢true h)
 
--- digits, by the test
+-- digits, according to the test
 pub AllDigits-from_test : (radix : ℕ) (ds : List ℕ) → list_all (λ d. nat_lt (digit_value d) radix) ds ≡ true → AllDigits radix ds
 AllDigits-from_test radix [] h = tt
 AllDigits-from_test radix (d ∷ ds) h =
@@ -26,7 +26,7 @@ pub test-from_AllDigits : (radix : ℕ) (ds : List ℕ) → AllDigits radix ds �
 test-from_AllDigits radix [] h = refl
 test-from_AllDigits radix (d ∷ ds) h = grind (arith, nat_tests, h.0, test-from_AllDigits radix ds h.1)
 
--- at most this many digits stay below that power of the base
+-- at most this many digits give a value below that power of the base
 pub digits_value_below : (radix most : ℕ) (ds : List ℕ) → AllDigits radix ds → 2 ≤ radix → length ds ≤ most → digits_value radix ds < radix ^ most
 digits_value_below radix most ds all two short =
     let below = digits_value-lt radix ds all in
@@ -39,7 +39,7 @@ pub digits_value_small : (radix most : ℕ) (ds : List ℕ) → AllDigits radix 
     digits_value radix ds < 2 ^ 40
 digits_value_small radix most ds all two short fits = omega (arith, digits_value_below radix most ds all two short)
 
--- nor does one more digit reach it
+-- and one more digit does not reach it either
 pub next_small : (radix most i : ℕ) (ds : List ℕ) → i < length ds → AllDigits radix (take i ds) → digit_value (get_or ds i 0) < radix → 2 ≤ radix →
     length ds ≤ most → radix ^ most ≤ 2 ^ 40 → digits_value radix (take i ds) * radix + digit_value (get_or ds i 0) < 2 ^ 40
 next_small radix most i ds inside all digit two short fits =

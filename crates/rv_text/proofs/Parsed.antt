@@ -25,7 +25,7 @@ pub register_in-text : (r : ℕ) → r < 32 → register_in_text (register_text 
 unfolding register_in_text
 register_in-text r h = ap (needed BadRegister) (register_of-text r h)
 
--- a number from the least to the greatest
+-- a number from the minimum to the maximum
 record IsIn (least greatest z : ℤ) : Type 0 where
   low : int_le least z ≡ true
   high : int_le z greatest ≡ true

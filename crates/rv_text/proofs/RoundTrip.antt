@@ -1,4 +1,4 @@
--- Reading back what was written gives the instruction.
+-- Reading back what was written returns the instruction.
 use Rattle.std.proofs.Common.{◌≡◌, ℕ, ◌+◌, ◌-◌, ◌%◌, ◌^◌, ◌<◌, ◌≤◌, ◌≤ℤ◌, ◌<ℤ◌, Bool, true, false, List, [], ◌∷◌, ◌++◌, refl, ◌∙◌, ap, arith, Ok, ℤ, pos, negsuc, lit<, lit≤}
 use Rattle.std.specs.Prelude.{codes, nat_eq, ◌==◌, ◌&&◌, if◌then◌else◌, Result}
 use Rattle.std.specs.Int.{w32}
@@ -39,7 +39,7 @@ unfolding statement_of statement_by
 statement_cut mnemonic text after cut right =
     rw (cut.name_is, (all_named mnemonic).found, cut.after_is, right) refl
 
--- a name alone
+-- a name without operands
 statement_alone : (mnemonic : Mnemonic) → takes_operands mnemonic 0 ≡ true → statement_of (mnemonic_name mnemonic ++ []) ≡ operands_read mnemonic []
 statement_alone mnemonic right =
     statement_cut mnemonic (mnemonic_name mnemonic ++ []) [] (cut_alone (mnemonic_name mnemonic) (all_named mnemonic).word)
@@ -132,7 +132,7 @@ unfolding distance_of
 distance_back pc imm small fits =
     rw (word_back pc (signed_word imm) small (Fits-of_z fits).fits) (to_z-of_z fits)
 
--- a distance that its field holds
+-- a distance that fits its field
 record IsFar (half : ℕ) (imm : ℤ) : Type 0 where
   test : is_distance half imm ≡ true
   fits : FitsSigned w32 imm
@@ -172,7 +172,7 @@ branch_back : (c : Cond) (rs1 rs2 : ℕ) (imm : ℤ) → IsFar (2 ^ 12) imm → 
 unfolding aimed
 branch_back c rs1 rs2 imm h = rw h.test refl
 
--- what a text says, and where it is
+-- what a text says, and its position
 read_as : (text : List ℕ) (pc : ℕ) (found : Result LineReading TextErr) → statement_of text ≡ found → read_text text pc ≡ and_then found (placed pc)
 unfolding read_text
 read_as text pc found e = ap (λ f. and_then f (placed pc)) e

@@ -1,4 +1,4 @@
--- A text that is cut gives back the name and the operands that it was made of.
+-- Splitting a text returns the name and the operands that it was built from.
 use Rattle.std.proofs.Common.{◌≡◌, ℕ, ◌+◌, ◌-◌, ◌<◌, Bool, true, false, List, [], ◌∷◌, ◌++◌, length, get_or, drop, refl, ◌∙◌, ap, arith, suc, zero, All, length-append}
 use Rattle.std.specs.Prelude.{not, nat_lt, ◌&&◌, slice_index_or}
 use Rattle.std.specs.List.{list_all, prefix_len, suffix_len, position_or_len, slice_split, before_first}
@@ -15,12 +15,12 @@ use Rattle.rv_text.specs.Pieces.{is_blank, is_comma, without_front, without_end,
 abbrev pub is_solid : ℕ → Bool
 is_solid byte = nat_lt 32 byte && not (is_comma byte)
 
--- a text of such bytes, and not empty
+-- a nonempty text of such bytes
 pub record IsSolid (text : List ℕ) : Type 0 where
   pub some : 0 < length text
   pub bytes : list_all is_solid text ≡ true
 
--- a text that blanks neither begin nor end
+-- a text that neither begins nor ends with a blank
 pub record IsBare (text : List ℕ) : Type 0 where
   pub some : 0 < length text
   pub first : is_blank (get_or text 0 0) ≡ false
@@ -110,7 +110,7 @@ Ends-cons byte back h = Ends-append (byte ∷ []) back h
 pub IsBare-of : (text : List ℕ) → Begins text → Ends text → IsBare text
 IsBare-of text b e = record { some = b.some; first = b.first; last = e.last }
 
--- the first index that passes, where nothing passes before it
+-- the first index that passes, if nothing before it passes
 pub position_at_seam : (p : ℕ → Bool) (front : List ℕ) (y : ℕ) (back : List ℕ)
     → ((k : ℕ) → k < length front → p (get_or front k 0) ≡ false) → p y ≡ true
     → position_or_len p (front ++ y ∷ back) ≡ length front

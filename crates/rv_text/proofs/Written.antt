@@ -1,4 +1,4 @@
--- What is written for a register, a number or an address is read as that.
+-- What is written for a register, a number or an address is read back as the same.
 use Rattle.std.proofs.Common.{◌≡◌, ℕ, ◌+◌, ◌*◌, ◌/◌, ◌%◌, ◌^◌, ◌<◌, ◌≤◌, Bool, true, false, List, [], ◌∷◌, ◌++◌, length, get_or, drop, refl, ◌∙◌, ap, arith, suc, zero, cond, Some, min, ℤ, pos, negsuc, length-drop, lit<, lit≤}
 use Rattle.std.specs.Prelude.{codes, decimal, nat_lt, ◌==◌, ◌&&◌, nat_eq}
 use Rattle.std.specs.Int.RustNames.{unsigned_abs}

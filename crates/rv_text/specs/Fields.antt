@@ -16,12 +16,12 @@ use Rattle.rv_text.specs.Registers.{register_of}
 unfoldable pub register_in_text : List ℕ → Result ℕ TextErr
 register_in_text text = needed BadRegister (register_of text)
 
--- the number, where it is from the least to the greatest
+-- the number, if it is from the minimum to the maximum
 abbrev pub within : ℤ → ℤ → ℤ → Result ℤ TextErr
 within least greatest z =
     if int_le least z && int_le z greatest then Ok z else Err (OutOfRange z)
 
--- an operand that must be a number from the least to the greatest
+-- an operand that must be a number from the minimum to the maximum
 unfoldable pub number_operand : ℤ → ℤ → List ℕ → Result ℤ TextErr
 number_operand least greatest text = and_then (needed BadNumber (number_of text)) (within least greatest)
 
@@ -29,7 +29,7 @@ number_operand least greatest text = and_then (needed BadNumber (number_of text)
 abbrev pub immediate_in : List ℕ → Result ℤ TextErr
 immediate_in text = number_operand (negsuc 2047) (pos 2047) text
 
--- an operand that must be a number below a limit, and not below 0
+-- an operand that must be a number from 0 up to, but not including, a limit
 abbrev pub field_below : ℕ → List ℕ → Result ℕ TextErr
 field_below limit text = and_then (number_operand (pos 0) (pos (limit - 1)) text) (λ z. Ok (unsigned_abs z))
 
@@ -48,19 +48,19 @@ immediate_of op text = if is_shift op then number_operand (pos 0) (pos 31) text 
 abbrev pub is_open : ℕ → Bool
 is_open byte = byte == 40
 
--- what is before a `)` at the end
+-- the text before a `)` at the end
 abbrev pub before_close : List ℕ → Option (List ℕ)
 before_close text = if ends_with nat_eq text (codes ")") then Some (take (length text - 1) text) else None
 
--- what is between a `(` at the beginning and a `)` at the end
+-- the text between a `(` at the beginning and a `)` at the end
 abbrev pub enclosed : List ℕ → Option (List ℕ)
 enclosed text = if starts_with nat_eq text (codes "(") then before_close (drop 1 text) else None
 
--- the number of an address: what is before the first `(`
+-- the number of an address: the text before the first `(`
 unfoldable pub offset_in : List ℕ → Result ℤ TextErr
 offset_in text = immediate_in (trimmed (before_first is_open text))
 
--- the register of an address: what is between the first `(` and a `)` at the end
+-- the register of an address: the text between the first `(` and a `)` at the end
 unfoldable pub base_in : List ℕ → Result ℕ TextErr
 base_in text =
     and_then (needed BadRegister (enclosed (drop (position_or_len is_open text) text)))

@@ -1,4 +1,4 @@
--- How a text is cut into lines (POSIX, "Line"): each ends with a line feed, which may be missing after the last.
+-- How a text is split into lines (POSIX, "Line"): each ends with a line feed, which may be missing after the last.
 use Rattle.std.specs.Prelude.{ℕ, ◌-◌, ◌==◌, Bool, List, [], ◌∷◌, length, take, nat_eq, if◌then◌else◌}
 use Rattle.std.specs.List.{ends_with, slice_split}
 
@@ -9,7 +9,7 @@ is_line_feed byte = byte == 10
 unfoldable pub without_return : List ℕ → List ℕ
 without_return line = if ends_with nat_eq line (13 ∷ []) then take (length line - 1) line else line
 
--- the pieces before line feeds are lines, and so is the last piece where it is not empty
+-- the pieces before line feeds are lines, and so is the last piece if it is not empty
 abbrev pub lines_from : List ℕ → List (List ℕ) → List (List ℕ)
 lines_from [] [] = []
 lines_from (byte ∷ last) [] = (byte ∷ last) ∷ []

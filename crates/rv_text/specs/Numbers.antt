@@ -21,7 +21,7 @@ magnitude text =
     if starts_with nat_eq text (codes "0x") then numeral 16 8 (drop 2 text)
     else numeral 10 10 text
 
--- the number as it is
+-- the number, not negated
 abbrev pub as_positive : Option ℕ → Option ℤ
 as_positive None = None
 as_positive (Some n) = Some (pos n)

@@ -1,4 +1,4 @@
--- How a line of assembly is cut: a name, and after it operands between commas (RISC-V Assembly Programmer's Manual).
+-- How a line of assembly is split: a name, followed by operands between commas (RISC-V Assembly Programmer's Manual).
 use Rattle.std.specs.Prelude.{ℕ, ◌-◌, ◌==◌, ◌||◌, Bool, List, [], length, take, drop, slice_index_or, if◌then◌else◌}
 use Rattle.std.specs.List.{prefix_len, suffix_len, slice_split, before_first}
 
@@ -21,22 +21,22 @@ without_end text = take (length text - suffix_len is_blank text) text
 unfoldable pub trimmed : List ℕ → List ℕ
 trimmed text = without_end (without_front text)
 
--- the name in a text: what is before the first blank, after the leading blanks
+-- the name in a text: after leading blanks, the text up to the next blank
 unfoldable pub name_part : List ℕ → List ℕ
 name_part text = before_first is_blank (trimmed text)
 
--- what follows the name
+-- the text after the name
 unfoldable pub operand_part : List ℕ → List ℕ
 operand_part text = drop (length (name_part text)) (trimmed text)
 
--- what is between the commas of a text
+-- the pieces between the commas of a text
 abbrev pub pieces : List ℕ → List (List ℕ)
 pieces text = slice_split is_comma text
 
--- how many operands a text has: as many as it has pieces, or none where it has only blanks
+-- how many operands a text has: as many as it has pieces, or none if it has only blanks
 unfoldable pub operand_count : List ℕ → ℕ
 operand_count text = if length (trimmed text) == 0 then 0 else length (pieces text)
 
--- the operand with this number, counted from 0: the piece without the blanks around it, and an empty text past the last
+-- the operand with this number, counted from 0: the piece without surrounding blanks, or an empty text past the last
 unfoldable pub operand_at : List ℕ → ℕ → List ℕ
 operand_at text index = trimmed (slice_index_or (pieces text) index [])

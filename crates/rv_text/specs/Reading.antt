@@ -25,11 +25,11 @@ unfoldable pub distance_of : ℤ → ℕ → ℤ
 distance_of target pc =
     signed (word_difference (unsigned_abs (int_rem_euclid target (pos (2 ^ 32)))) pc)
 
--- an even number from minus `half` up to below `half`
+-- an even number from minus `half` up to, but not including, `half`
 unfoldable pub is_distance : ℕ → ℤ → Bool
 is_distance half z = int_le (negsuc (half - 1)) z && int_lt z (pos half) && unsigned_abs z % 2 == 0
 
--- the instruction where its distance fits, else the refusal of the distance
+-- the instruction if its distance fits, otherwise the refusal of the distance
 abbrev pub if_fits : Bool → Instr → ℤ → Result Instr TextErr
 if_fits fits i z = if fits then Ok i else Err (OutOfRange z)
 
@@ -114,11 +114,11 @@ set_form text =
     and_then (register_in_text (operand_at text 1)) (λ rs1.
     and_then (field_below (2 ^ 12) (operand_at text 2)) (λ set. Ok (rd, rs1, set))))
 
--- the operands of a fence; where there are none, its registers are 0 and its set is the plain one
+-- the operands of a fence; if there are none, its registers are 0 and its set is the default
 unfoldable pub fence_form : ℕ → List ℕ → Result (ℕ × ℕ × ℕ) TextErr
 fence_form plain text = if operand_count text == 0 then Ok (0, 0, plain) else set_form text
 
--- a whole instruction, made of what was found
+-- a whole instruction, built from what was read
 abbrev pub whole : {A : Type 0} → (A → Instr) → Result A TextErr → Result LineReading TextErr
 whole make found = and_then found (λ a. Ok (WholeOf (make a)))
 
@@ -134,7 +134,8 @@ branch_form c text =
     and_then (register_in_text (operand_at text 1)) (λ rs2.
     Ok (AimedAt (jump.Branch c rs1 rs2) (operand_at text 2))))
 
--- what the operands of a mnemonic say, read from left to right; a store's first register is the one that is stored
+-- the meaning of the operands of a mnemonic, read from left to right; a store's first register is the one that is
+-- stored
 unfoldable pub operands_read : Mnemonic → List ℕ → Result LineReading TextErr
 operands_read Lui text = whole (λ (rd, imm). instr.Lui rd imm) (upper_form text)
 operands_read Auipc text = whole (λ (rd, imm). instr.Auipc rd imm) (upper_form text)
@@ -151,17 +152,17 @@ operands_read Ebreak text = Ok (WholeOf instr.Ebreak)
 operands_read FenceI text = whole (λ (rd, rs1, set). instr.FenceI rd rs1 set) (fence_form 0 text)
 operands_read (Mul op) text = whole (λ (rd, rs1, rs2). instr.Mul op rd rs1 rs2) (register_form text)
 
--- a count of operands, capped at the greatest number of 32 bits
+-- a count of operands, at most the maximum number of 32 bits
 abbrev pub capped_count : ℕ → ℕ
 capped_count count = min count (2 ^ 32 - 1)
 
--- what the text after a name says: first the operands are counted
+-- the meaning of the text after a name: first the operands are counted
 unfoldable pub statement_by : Mnemonic → List ℕ → Result LineReading TextErr
 statement_by mnemonic text =
     if takes_operands mnemonic (operand_count text) then operands_read mnemonic text
     else Err (WrongCount (capped_count (operand_count text)) (wanted mnemonic))
 
--- what a text says: first its name is looked up
+-- the meaning of a text: first its name is looked up
 unfoldable pub statement_of : List ℕ → Result LineReading TextErr
 statement_of text =
     and_then (needed UnknownName (mnemonic_named (name_part text)))

@@ -17,18 +17,18 @@ usual_names =
     ∷ (codes "s7", 23) ∷ (codes "s8", 24) ∷ (codes "s9", 25) ∷ (codes "s10", 26) ∷ (codes "s11", 27)
     ∷ (codes "t3", 28) ∷ (codes "t4", 29) ∷ (codes "t5", 30) ∷ (codes "t6", 31) ∷ []
 
--- a number, where it is a register's
+-- a number, if it is a register's
 abbrev pub register_only : Option ℕ → Option ℕ
 register_only None = None
 register_only (Some n) = if nat_lt n 32 then Some n else None
 
--- one or two digits without a leading zero: the register of that number
+-- one or two digits without a leading zero: the register with that number
 unfoldable pub register_numbered : List ℕ → Option ℕ
 register_numbered digits =
     if starts_with nat_eq digits (codes "0") && nat_lt 1 (length digits) then None
     else register_only (numeral 10 2 digits)
 
--- the same, where one leading zero is allowed
+-- the same, with one leading zero allowed
 unfoldable pub register_padded : List ℕ → Option ℕ
 register_padded digits =
     if starts_with nat_eq digits (codes "0") && nat_lt 1 (length digits)

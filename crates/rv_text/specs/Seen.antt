@@ -5,7 +5,7 @@ use Rattle.rv_text.specs.declared.statement.Statement.TheVariants.{Whole, Aimed}
 use Rattle.rv_text.specs.declared.text_err.TextErr.{TextErr}
 use Rattle.rv_text.specs.Reading.{LineReading, WholeOf, AimedAt}
 
--- a statement, with its target's text
+-- a statement with its target's text
 abbrev pub statement_seen : Statement → LineReading
 statement_seen (Whole i) = WholeOf i
 statement_seen (Aimed jump target) = AimedAt jump target.now

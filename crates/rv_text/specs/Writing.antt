@@ -11,7 +11,7 @@ use Rattle.rv_text.specs.declared.operands.Operand.{Operand}
 use Rattle.rv_text.specs.declared.operands.Operand.TheVariants.{Register, Number, Upper, Target, Address}
 use Rattle.rv_text.specs.Names.{mnemonic_name, mnemonic_of}
 
--- digits without the leading zeros, of which at most seven are left out
+-- digits without leading zeros, of which at most seven are dropped
 abbrev pub without_zeros : List ℕ → List ℕ
 without_zeros digits = drop (min (prefix_len (λ digit. digit == 48) digits) 7) digits
 
@@ -40,7 +40,7 @@ operands_listed before (operand ∷ operands) = before ++ operand_text operand +
 abbrev pub target_operand : ℕ → ℤ → Operand
 target_operand pc distance = Target (word_sum pc (signed_word distance))
 
--- the operands of a fence: none where its registers are 0 and its set is the plain one
+-- the operands of a fence: none if its registers are 0 and its set is the default
 abbrev pub fence_operands : ℕ → ℕ → ℕ → ℕ → List Operand
 fence_operands plain rd rs1 set =
     if rd == 0 && rs1 == 0 && set == plain then []

@@ -19,8 +19,8 @@ pub fn register_in(text: &[u8]) -> Result<u8, TextErr>
     read_register(text).ok_or(TextErr::BadRegister)
 }
 
-/// The number that an operand spells, from `least` to `greatest`: `BadNumber` where it spells no number, and
-/// `OutOfRange` with the number where it is outside.
+/// The number that an operand spells, from `least` to `greatest`: `BadNumber` if it does not spell a number, and
+/// `OutOfRange` with the number if that is outside the range.
 pub fn number_in(least: i32, greatest: i32, text: &[u8]) -> Result<i32, TextErr>
     ensures value { result ≡ number_operand least greatest text.now }
     ensures least { IfOk result (λ z. least ≤ℤ z) }
@@ -66,7 +66,7 @@ pub(crate) fn offset_in(text: &[u8]) -> Result<i32, TextErr>
     immediate_in(trim(&text[..find_byte(text, b'(')]))
 }
 
-/// What is between `(` and `)`, where a text begins with the one and ends with the other.
+/// The text between `(` and `)`, if the text begins with `(` and ends with `)`.
 fn enclosed(text: &[u8]) -> Option<&[u8]>
     ensures { MatchOption result (enclosed text.now ≡ None) (λ inner. enclosed text.now ≡ Some inner.now) }
 {

@@ -1,4 +1,4 @@
-//! How a text is cut into lines.
+//! How a text is split into lines.
 
 ghost use Rattle.std.specs.Prelude.{◌≡◌, ◌<◌, ◌≤◌, ◌+◌, ◌∷◌, length, take, drop};
 ghost use Rattle.rv_text.specs.Lines.{without_return, text_lines};
@@ -16,7 +16,7 @@ fn without_return(line: &[u8]) -> &[u8]
     }
 }
 
-/// What is before the byte at an index, and what follows it.
+/// The text before the byte at an index, and the text after it.
 pub fn cut_at(text: &[u8], index: usize) -> (&[u8], &[u8])
     requires { index < length text.now }
     ensures before { result.0.now ≡ take index text.now }
@@ -27,7 +27,7 @@ pub fn cut_at(text: &[u8], index: usize) -> (&[u8], &[u8])
     (&text[..index], &text[index + 1..])
 }
 
-/// The first line of a text that is not empty, and what follows it.
+/// The first line of a nonempty text, and the text after it.
 #[tactic(auto, unfolding(crate::specs::Lines::text_lines), using(crate::proofs::LineCuts::lines))]
 pub fn cut_line(text: &[u8]) -> (&[u8], &[u8])
     requires { 0 < length text.now }

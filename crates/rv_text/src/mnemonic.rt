@@ -4,7 +4,7 @@ ghost use Rattle.rv_text.specs.Names.{mnemonic_name, mnemonic_named, mnemonic_of
 
 use rv_inst::{Cond, ImmOp, Instr, LoadKind, MulOp, RegOp, StoreKind};
 
-/// An instruction without its operands: what its name says.
+/// An instruction without its operands: the meaning of its name.
 #[derive(Clone, Copy)]
 pub enum Mnemonic {
     Lui,

@@ -35,7 +35,7 @@ fn magnitude(text: &[u8]) -> Option<u64>
     }
 }
 
-/// The number that a text spells: decimal digits, at most ten, or `0x` and at most eight hexadecimal digits; a leading
+/// The number that a text spells: at most ten decimal digits, or `0x` and at most eight hexadecimal digits; a leading
 /// `-` negates it. It is `None` for any other text.
 pub fn read_number(text: &[u8]) -> Option<i64>
     ensures { result ≡ number_of text.now }

@@ -1,4 +1,4 @@
-//! How a line is cut into a name and operands.
+//! How a line is split into a name and operands.
 #![tactic(auto, unfolding(crate::specs::Pieces::without_front, crate::specs::Pieces::without_end, crate::specs::Pieces::trimmed, crate::specs::Pieces::name_part, crate::specs::Pieces::operand_part))]
 
 ghost use Rattle.std.specs.Prelude.{◌≡◌, ◌≤◌, ◌==◌, length};
@@ -31,7 +31,7 @@ fn without_end(text: &[u8]) -> &[u8]
     &text[..end]
 }
 
-/// The text without the blanks at both ends.
+/// The text without leading and trailing blanks.
 pub fn trim(text: &[u8]) -> &[u8]
     ensures { result.now ≡ trimmed text.now }
 {
@@ -49,7 +49,7 @@ fn word_end(text: &[u8]) -> usize
     end
 }
 
-/// The name in a text, and what follows it.
+/// The name in a text, and the text after it.
 pub fn split_name(text: &[u8]) -> (&[u8], &[u8])
     ensures name { result.0.now ≡ name_part text.now }
     ensures after { result.1.now ≡ operand_part text.now }
@@ -59,7 +59,7 @@ pub fn split_name(text: &[u8]) -> (&[u8], &[u8])
     (&text[..end], &text[end..])
 }
 
-/// The index of the first occurrence of the byte, or the length where there is none.
+/// The index of the first occurrence of the byte, or the length if there is none.
 pub fn find_byte(text: &[u8], byte: u8) -> usize
     ensures index { result ≡ position_or_len (λ b. b == byte) text.now }
     ensures within { result ≤ length text.now }
@@ -95,7 +95,7 @@ pub fn count_operands(text: &[u8]) -> usize
     }
 }
 
-/// The operand with this number, counted from 0; an empty text where there is none.
+/// The operand with this number, counted from 0; an empty text if there is none.
 #[tactic(auto, unfolding(crate::specs::Pieces::operand_at), using(crate::proofs::Cuts::cuts))]
 pub fn operand(text: &[u8], index: usize) -> &[u8]
     ensures { result.now ≡ operand_at text.now index }

@@ -167,8 +167,8 @@ fn takes(mnemonic: Mnemonic, count: usize) -> bool
     count == wanted(mnemonic) as usize || is_fence(mnemonic) && count == 0
 }
 
-/// What the text after a name says: `WrongCount` where there are too many or too few operands, else the first refusal
-/// of an operand from left to right.
+/// The meaning of the text after a name: `WrongCount` if there are too many or too few operands, otherwise the first
+/// refusal of an operand from left to right.
 #[tactic(auto, unfolding(crate::specs::Reading::statement_by))]
 pub fn read_statement_of(mnemonic: Mnemonic, text: &[u8]) -> Result<Statement<'_>, TextErr>
     ensures { ReadsStatement result (statement_by mnemonic text.now) }
@@ -183,8 +183,8 @@ pub fn read_statement_of(mnemonic: Mnemonic, text: &[u8]) -> Result<Statement<'_
     })
 }
 
-/// What a text says before its target is read: `UnknownName` where its first word is not an instruction's name, else
-/// what `read_statement_of` returns for the rest.
+/// The meaning of a text before its target is read: `UnknownName` if its first word is not an instruction's name,
+/// otherwise what `read_statement_of` returns for the rest.
 #[tactic(auto, unfolding(crate::specs::Reading::statement_of))]
 pub fn read_statement(text: &[u8]) -> Result<Statement<'_>, TextErr>
     ensures { ReadsStatement result (statement_of text.now) }
@@ -206,7 +206,7 @@ fn aim(jump: Jump, target: &[u8], pc: u32) -> Result<Instr, TextErr>
 
 /// The instruction that a text spells at `pc`; its target, if it has one, is an address.
 ///
-/// The first refusal is the answer: of the name, of the count of operands, of the operands from left to right.
+/// The first refusal is returned: that of the name, of the count of operands, or of the operands from left to right.
 #[tactic(auto, unfolding(crate::specs::Reading::read_text))]
 pub fn read_instr(text: &str, pc: u32) -> Result<Instr, TextErr>
     ensures { result ≡ read_text text.now pc }

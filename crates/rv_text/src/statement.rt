@@ -1,4 +1,4 @@
-//! What a text says before its target is read.
+//! The meaning of a text before its target is read.
 #![tactic(auto, unfolding(crate::specs::Reading::distance_of, crate::specs::Reading::is_distance, crate::specs::Reading::aimed))]
 
 ghost use Rattle.std.specs.Prelude.{◌≡◌, pos, ◌<ℤ◌};
@@ -17,8 +17,7 @@ pub enum Jump {
     Branch(Cond, u8, u8),
 }
 
-/// A line's instruction. A jump or a branch keeps the text of its target, which stands for an
-/// address.
+/// A line's instruction. A jump or a branch keeps the text of its target, which denotes an address.
 #[derive(Clone, Copy)]
 pub enum Statement<'a> {
     /// The whole instruction.
@@ -44,8 +43,8 @@ fn is_distance(distance: i32, half: i32) -> bool
 }
 
 impl Jump {
-    /// The jump or the branch over this distance. An odd distance, or one that its field cannot
-    /// hold, is `OutOfRange` with the distance.
+    /// The jump or the branch over this distance. An odd distance, or one that does not fit its field, is `OutOfRange`
+    /// with the distance.
     pub fn to(self, distance: i32) -> Result<Instr, TextErr>
         ensures { result ≡ aimed self distance }
     {

@@ -3,7 +3,7 @@
 ghost use Rattle.std.specs.Prelude.{◌≡◌, map};
 ghost use Rattle.rv_text.specs.Tables.{look_up};
 
-/// The entry for the word in the table: the first, where there are several.
+/// The first entry for the word in the table.
 pub fn look_up<T: Copy>(mut table: &[(&[u8], T)], word: &[u8]) -> Option<T>
     ensures { result ≡ look_up (map (λ entry. (entry.0.now, entry.1)) table.entry.now) word.now }
 {

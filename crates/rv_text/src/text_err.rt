@@ -10,8 +10,7 @@ pub enum TextErr {
     BadRegister,
     /// An operand that must be a number does not spell one.
     BadNumber,
-    /// The number does not fit its field. It is kept as it was written; for a target, the distance
-    /// is kept.
+    /// The number does not fit its field. It is the number as written; for a target it is the distance.
     OutOfRange(i64),
     /// There are `got` operands, not `wanted`.
     WrongCount { got: u32, wanted: u32 },

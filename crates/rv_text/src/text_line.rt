@@ -47,7 +47,7 @@ impl TextLine {
         self.letters.as_slice()
     }
 
-    /// Makes the line hold these bytes and nothing else.
+    /// Replaces the contents of the line by these bytes.
     pub fn set(&mut self, text: &[u8])
         requires { length text.now ≤ 80 }
         ensures { self.new ≡ text.now }
@@ -63,7 +63,7 @@ impl TextLine {
         self.letters.clear();
     }
 
-    /// Appends bytes, for which there is room.
+    /// Appends bytes; there must be room for them.
     pub(crate) fn put(&mut self, text: &[u8])
         requires { length self.old + length text.now ≤ 80 }
         ensures { self.new ≡ self.old ++ text.now }

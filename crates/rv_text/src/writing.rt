@@ -147,7 +147,7 @@ fn put_operands_of(i: Instr, pc: u32, line: &mut TextLine)
     }
 }
 
-/// Makes the line hold the text of the instruction at `pc`, and nothing else.
+/// Replaces the contents of the line by the text of the instruction at `pc`.
 #[tactic(auto, using(crate::proofs::RoundTrip::reading_back), unfolding(crate::specs::Writing::text_of))]
 pub fn write_instr(i: Instr, pc: u32, line: &mut TextLine)
     requires { Fits i }

@@ -13,7 +13,7 @@ use std::process::ExitCode;
 use std::{env, io, rt, str};
 use test_rows::Sheet;
 
-/// The greatest number of bytes of a file of rows.
+/// The maximum number of bytes of a file of rows.
 const MOST_BYTES: u64 = 1_000_000;
 
 /// Applies one line, after the call of the row that it ends.
@@ -51,7 +51,7 @@ fn run_lines(
     judge(rt, name, sheet, tally)
 }
 
-/// Makes the calls of the rows in a file's bytes, where they are a text.
+/// Makes the calls of the rows in a file's bytes, if they are a text.
 fn run_rows(
     rt: &(impl Print + AllocGlobal),
     name: &str,
@@ -67,7 +67,7 @@ fn run_rows(
     run_lines(rt, name, text, &mut sheet, tally)
 }
 
-/// The bytes of a file of rows; none where it cannot be read.
+/// The bytes of a file of rows; none if it cannot be read.
 fn bytes_of(rt: &HostRuntime, name: &str) -> Vec<u8> {
     let mut files = DirFiles::new(rt);
     match files.read(rt.alloc(), name, MOST_BYTES) {

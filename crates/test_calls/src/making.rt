@@ -49,7 +49,7 @@ fn sinks_of(alloc: Global, call: &Call) -> Result<Sinks, AllocError> {
     Ok(Sinks { output, report })
 }
 
-/// Makes the call over objects in memory, and returns the status with which the process would end.
+/// Makes the call over objects in memory, and returns the exit status that the process would have.
 fn status_of(
     alloc: Global,
     words: &[String],

@@ -1,4 +1,4 @@
-//! What no clause says: that files are read, and that the definitions mean what is wanted.
+//! What no clause says: that files are read, and that the definitions have the intended meaning.
 use cf_layout::{Layout, LayoutErr, plain};
 use layout_file::laws::read_back;
 use layout_file::{FileErr, read_layout, read_layout_loosely, write_layout};
@@ -52,7 +52,7 @@ fn writes_what_it_reads(rt: HostRuntime) {
     assert!(rt; is_rewritten(alloc, SHUFFLED, TINY));
 }
 
-/// Whether the built-in layout comes back with this many stages.
+/// Whether the built-in layout is read back with this many stages.
 fn comes_back(alloc: Global, stages: u32) -> bool {
     match read_back(alloc, &plain()) {
         Ok(layout) => layout.stages() == stages,
@@ -138,7 +138,7 @@ fn is_read_loosely(alloc: Global, file: &str) -> bool {
     }
 }
 
-/// Whether the file gets this refusal also where it is read loosely.
+/// Whether the file gets this refusal also if it is read loosely.
 fn is_refused_loosely(alloc: Global, file: &str, refusal: Refusal) -> bool {
     match read_layout_loosely(alloc, file.as_bytes()) {
         Ok(_) => false,

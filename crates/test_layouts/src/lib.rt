@@ -1,5 +1,5 @@
-//! Tests of public calls of layouts and their files, a file for each crate: a crate that has
-//! tests of its own is proved a second time with them.
+//! Tests of public calls of layouts and their files, with one file for each crate: a crate that has tests of its own is
+//! proved a second time with them.
 #![tactic(auto)]
 
 #[cfg(test)]

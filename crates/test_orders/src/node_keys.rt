@@ -1,5 +1,5 @@
-//! What no clause says of keys: that there is memory for them, that they are short, and that the bytes are those that
-//! are wanted. The bytes are worked out by hand.
+//! What no clause says about keys: that there is enough memory for them, that they are short, and that the bytes are
+//! the intended ones. The bytes are worked out by hand.
 
 use arrayvec::ArrayVec;
 use cf_bind::{Binding, Cell, Fetch, Guess, Packet, Passenger};
@@ -9,7 +9,7 @@ use order_model::{SidingOps, Situation};
 use rv_inst::{ImmOp, Instr};
 use std::alloc::{AllocError, Global};
 
-/// A stage with nothing in it.
+/// An empty stage.
 const EMPTY: Cell = Cell {
     passenger: None,
     packet: None,
@@ -88,7 +88,7 @@ fn addition(pc: u32, sum: u32) -> Cell {
     }
 }
 
-/// Three additions under way in the eight stages of `plain`, whose siding has two cells.
+/// Three additions in flight in the eight stages of `plain`, whose siding has two cells.
 fn busy(alloc: Global) -> Result<Node, AllocError> {
     let mut node = idle(alloc)?;
     let one = addition(0x1_0000, 8);

@@ -1,11 +1,11 @@
-//! What no clause says: that there is memory for the lane, and that requests are answered in their order, even where
-//! the lane wraps around. The values are worked out by hand.
+//! What no clause says: that there is enough memory for the lane, and that requests are answered in their order, even
+//! if the lane wraps around. The values are worked out by hand.
 
 use cf_bind::Packet;
 use cf_ends::Ends;
 use std::process::Abort;
 
-/// The value of a register in which its own number is.
+/// The value of a register that holds its own number.
 fn own_number(reg: u8) -> Packet {
     Packet::Value {
         reg,

@@ -1,4 +1,4 @@
-//! What no clause says: that the definitions mean what is wanted. Three instructions, worked through by hand.
+//! What no clause says: that the definitions have the intended meaning. Three instructions, worked through by hand.
 
 use cf_bind::{Binding, End, Guess, Packet, Passenger};
 use cf_ends::Ends;
@@ -21,7 +21,7 @@ fn issued(ends: &Ends, word: u32, pc: u32, guess: Guess) -> Passenger {
     }
 }
 
-/// The instruction after its execution, where it adds or jumps.
+/// The instruction after its execution, if it adds or jumps.
 fn executed(p: Passenger) -> Passenger {
     match kind(&p) {
         Class::Add | Class::Jump => finish(p, None),
@@ -37,12 +37,12 @@ fn known(reg: u8, value: u32) -> Option<Binding> {
     })
 }
 
-/// Registers that are 0, with an empty cache.
+/// Registers with the value 0, and an empty cache.
 fn zeros(rt: &(impl Abort + AllocGlobal)) -> Ends {
     Ends::new(rt.alloc(), [0; 32], 0x1_0000, 2).expect(rt, "memory for the lane")
 }
 
-/// `addi x1, x0, 5` has its value at once.
+/// `addi x1, x0, 5` has its value immediately.
 #[test]
 fn a_constant_is_added(rt: HostRuntime) {
     let five = executed(issued(&zeros(&rt), 0x0050_0093, 0x1_0000, Guess::Next));
@@ -62,7 +62,7 @@ fn a_value_is_kept(rt: HostRuntime) {
     assert!(rt; executed(six).dst == known(2, 6));
 }
 
-/// `jal x0, 4`, after which fetch waited.
+/// `jal x0, 4`, after which fetch waits.
 #[test]
 fn a_jump_is_waited_for(rt: HostRuntime) {
     let jump = issued(&zeros(&rt), 0x0040_006f, 0x1_0004, Guess::Wait);
@@ -72,7 +72,7 @@ fn a_jump_is_waited_for(rt: HostRuntime) {
     assert!(rt; goto(&jump) == Some(0x1_0008));
 }
 
-/// ECALL, after which nothing is fetched before it is answered.
+/// ECALL, after which nothing is fetched until it is answered.
 #[test]
 fn a_call_is_answered(rt: HostRuntime) {
     let call = issued(&zeros(&rt), 0x0000_0073, 0x1_0000, Guess::Next);

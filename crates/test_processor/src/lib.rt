@@ -1,5 +1,5 @@
-//! Tests of public calls of the memory, the sequential machine, the processor and its parts, a file for each crate: a
-//! crate that has tests of its own is proved a second time with them.
+//! Tests of public calls of the memory, the sequential machine, the processor and its parts, with one file for each
+//! crate: a crate that has tests of its own is proved a second time with them.
 #![tactic(auto)]
 
 #[cfg(test)]

@@ -170,7 +170,7 @@ static CALLS: [Call; 11] = [
     (500, [0, 0, 0], Served::Value(0xffff_ffda)),
 ];
 
-/// The zeroed stack alone.
+/// Only the zeroed stack.
 fn stack_alone(rt: &(impl Abort + AllocGlobal)) -> Regions {
     memory_of(rt, b"", &[STACK])
 }

@@ -1,6 +1,6 @@
-//! What no clause says: that calls can succeed, and that the definitions mean what is wanted. The values are worked out
-//! by hand; the instruction words are those of NOP and EBREAK in the RISC-V Unprivileged ISA Manual, "RV32I Base
-//! Integer Instruction Set".
+//! What no clause says: that calls can succeed, and that the definitions have the intended meaning. The values are
+//! worked out by hand; the instruction words are those of NOP and EBREAK in the RISC-V Unprivileged ISA Manual, "RV32I
+//! Base Integer Instruction Set".
 
 ghost use Rattle.std.specs.Prelude.{◌≡◌, All, [], false};
 ghost use Rattle.mem_regions.specs.Loading.{LiesIn};
@@ -14,7 +14,7 @@ const NOP: u32 = 0x0000_0013;
 
 const EBREAK: u32 = 0x0010_0073;
 
-/// Code, which may be written.
+/// Code, which is writable.
 const CODE: Part = Part {
     base: 100,
     start: 0,
@@ -24,7 +24,7 @@ const CODE: Part = Part {
     exec: true,
 };
 
-/// Constants right after the code.
+/// Constants immediately after the code.
 const CONSTANTS: Part = Part {
     base: 108,
     start: 4,
@@ -53,12 +53,12 @@ fn loads_the_bytes_and_then_zeros(rt: HostRuntime) {
     assert!(rt; memory.brk() == 0x7f00_0000);
 }
 
-/// Whether a load of 2 or 4 bytes gives the number.
+/// Whether a load of 2 or 4 bytes returns the number.
 fn loads(memory: &Regions, addr: u32, width: u32, number: u32) -> bool {
     (width == 2 || width == 4) && memory.load_number(addr, width) == Ok(number)
 }
 
-/// Whether a fetch gives this word, or this error.
+/// Whether a fetch returns this word, or this error.
 fn fetches(memory: &Regions, pc: u32, word: Result<u32, MemErr>) -> bool {
     memory.fetch(pc) == word
 }

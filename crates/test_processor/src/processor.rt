@@ -1,5 +1,5 @@
-//! Runs that were worked out by hand, under the built-in layout: what no clause says is that there is memory for a
-//! processor, and that these moves lead from its start to where a reader of the table of moves expects them to.
+//! Runs that were worked out by hand, under the built-in layout: what no clause says is that there is enough memory for
+//! a processor, and that these moves lead from its start to where a reader of the table of moves expects them to.
 use crate::programs::{BASE, machine_of};
 use cf_bind::{Bar, Guess, Move};
 use cf_core::{Core, Step};
@@ -12,7 +12,7 @@ fn core_of(rt: &(impl Abort + AllocGlobal), words: &[u32]) -> Core {
     Core::new(rt.alloc(), plain(), machine_of(rt, words, BASE)).expect(rt, "memory for a processor")
 }
 
-/// Makes the moves in order, up to the first that is not made, and returns its outcome.
+/// Makes the moves in order, up to the first that cannot be made, and returns its outcome.
 fn make(core: &mut Core, moves: &[Move]) -> Option<Step> {
     for m in moves {
         if core.retired() > 1000 {

@@ -52,7 +52,7 @@ fn each_move(rt: HostRuntime) {
     }
 }
 
-/// Spellings that are read and never written.
+/// Spellings that are read but never written.
 #[test]
 fn other_spellings(rt: HostRuntime) {
     let text = b"\tclimb  000000001 \r\n\n \t\n# a note: \x80\nissue\tto 0001ABcd\n\r\nleave";
@@ -118,7 +118,7 @@ fn lines_without_a_move(rt: HostRuntime) {
     );
 }
 
-/// The longest script: line feeds alone.
+/// The longest script: only line feeds.
 #[test]
 fn the_longest_script(rt: HostRuntime) {
     let text = vec![in rt.alloc(); b'\n'; 16_777_216].expect(&rt, "memory");

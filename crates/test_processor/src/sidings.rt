@@ -1,4 +1,5 @@
-//! What no clause says: that there is memory for the sidings of a layout, and that an operation passes through one.
+//! What no clause says: that there is enough memory for the sidings of a layout, and that an operation passes through
+//! one.
 
 use cf_layout::plain;
 use cf_sidings::{Op, Sidings};

@@ -1,5 +1,5 @@
-//! What no clause says: that there is memory for stages, and that the definitions mean what is wanted. The values are
-//! worked out by hand: two additions of 1 to x1 are one above the other, and x1 is 0.
+//! What no clause says: that there is enough memory for stages, and that the definitions have the intended meaning. The
+//! values are worked out by hand: two additions of 1 to x1 are in consecutive stages, and x1 is 0.
 
 ghost use Rattle.std.specs.Prelude.{◌≡◌, Some};
 ghost use Rattle.cf_semantics.specs.state.State.{cell_at};

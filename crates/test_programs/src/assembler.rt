@@ -1,4 +1,4 @@
-//! Sources and the words that GNU as and ld 2.40 make of them, and refusals in their order.
+//! Sources and the words that GNU as and ld 2.40 produce for them, and refusals in their order.
 ghost use Rattle.rv_asm.specs.Small.{IsSmallObject};
 ghost use Rattle.std.specs.Prelude.{IfSome};
 
@@ -101,7 +101,7 @@ fn spell(bytes: &[u8], words: &[u32]) -> bool {
     rest.is_empty()
 }
 
-/// What a source is assembled to, if it is.
+/// The object that a source is assembled into, if it is accepted.
 pub(crate) fn object_of(rt: &impl AllocGlobal, source: &[u8]) -> Option<Object>
     ensures { IfSome result (λ object. IsSmallObject object) }
 {
@@ -126,7 +126,7 @@ fn a_program_is_assembled(rt: HostRuntime) {
     assert!(rt; gives(&rt, b"", &[], &[]));
 }
 
-/// Addresses that are almost 4 GiB away from the instruction's, counted in 32 bits, or half as far.
+/// Addresses that are almost 4 GiB away from the instruction's, computed in 32 bits, or half as far.
 const FAR: &str = "la a0, 0xfffff800\nla a1, 0x7ffffffc\ncall 0xfffff800\n.text\nnop\n";
 
 #[test]
@@ -143,7 +143,7 @@ fn distances_are_taken_in_32_bits(rt: HostRuntime) {
     assert!(rt; gives(&rt, FAR.as_bytes(), &text, &[]));
 }
 
-/// Empty lines and a last one, 1,048,576 bytes in all.
+/// Empty lines and a last one, 1,048,576 bytes in total.
 fn longest(alloc: Global) -> Result<Vec<u8>, AllocError> {
     let mut source = Vec::new(alloc);
     source.resize(1_048_572, b'\n')?;

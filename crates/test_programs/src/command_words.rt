@@ -130,7 +130,7 @@ fn run_words(rt: HostRuntime) {
     }
 }
 
-/// The delays, the program, how many layouts, the limit, and what is shown of each time.
+/// The delays, the program, the number of layouts, the limit, and what is shown of each time.
 type TimeAsked<'a> = (&'a str, &'a str, usize, u64, TimeShow);
 
 /// What the arguments request to compare.
@@ -270,10 +270,10 @@ fn orders_words(rt: HostRuntime) {
     }
 }
 
-/// The limit, and after how many instructions it is said each time how far the run has come.
+/// The limit, and the number of instructions between two reports of progress.
 type Amounts = (u64, Option<u64>);
 
-/// The amounts that the arguments of a run have.
+/// The amounts in the arguments of a run.
 fn amounts(words: &[String]) -> Option<Amounts> {
     match read_arguments(words) {
         Ok(Command::Machine { options, .. }) => Some((options.limit, options.every)),

@@ -1,7 +1,7 @@
 //! What no clause says: the first lines of programs, letter by letter, and an output that fails in mid-stream. The
 //! first draws were worked out by hand: of 1 they are 1015568748 / 65536 = 15496 and 1586005467 / 65536 = 24200, and of
-//! 3 the first is 1018897798 / 65536 = 15547. The other lines come from a script in another language that was written
-//! from the description of the text alone.
+//! 3 the first is 1018897798 / 65536 = 15547. The other lines come from a script in another language, written only from
+//! the description of the text.
 
 ghost use Rattle.std.specs.Prelude.{◌≤◌};
 ghost use Rattle.run_options.specs.Limits.{most_statements};

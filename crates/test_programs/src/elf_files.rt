@@ -1,7 +1,7 @@
-//! What no clause says: that files are accepted, and that the definitions mean what is wanted. The offsets and numbers
-//! are those of the Tool Interface Standard, Executable and Linking Format Specification, with the machine and the
-//! flags of the RISC-V ELF psABI Specification. `readelf -h -l -S -s` of GNU binutils reads both files as they are
-//! described here.
+//! What no clause says: that files are accepted, and that the definitions have the intended meaning. The offsets and
+//! numbers are those of the Tool Interface Standard, Executable and Linking Format Specification, with the machine and
+//! the flags of the RISC-V ELF psABI Specification. `readelf -h -l -S -s` of GNU binutils reads both files as described
+//! here.
 
 use byteorder::{ByteOrder, LittleEndian};
 use elf_view::{Elf, ElfErr, LazySymbols, Segments, Symbols};
@@ -80,7 +80,8 @@ fn refused_with(mut file: [u8; 248], at: usize, number: u32) -> Option<ElfErr> {
     refused(&file)
 }
 
-/// The numbers of a segment: its address, its offset, its size in memory, whether it is written and whether it is code.
+/// The numbers of a segment: its address, its offset, its size in memory, whether it is writable and whether it is
+/// code.
 type Numbers = (u32, u32, u32, bool, bool);
 
 /// Whether the next segment has these numbers and these bytes.
@@ -136,7 +137,7 @@ fn refuses_a_file_that_is_cut(rt: HostRuntime) {
     }
 }
 
-/// Where a number of the program is changed, to what, and the answer.
+/// The offset at which a number of the program is changed, the new number, and the answer.
 const CHANGES: [(usize, u32, Option<ElfErr>); 14] = [
     (0, 0x464c_457e, Some(ElfErr::NotElf)),
     (4, 0x0001_0102, Some(ElfErr::Not32Little)),
@@ -171,9 +172,9 @@ fn refuses_section_headers_that_are_cut(rt: HostRuntime) {
     assert!(rt; refused(&file) == Some(ElfErr::TooShort(240)));
 }
 
-/// No segments, and three symbols, of which the last two share an end of their names: the sections are the empty one,
-/// the symbols from 64 on and the names from 52 on. A section header has at 4 its type, at 16 its offset and size, the
-/// section that it links to, and at 36 the size of its entries.
+/// No segments, and three symbols, the last two of which share the end of their names: the sections are the empty one,
+/// the symbols from 64 on and the names from 52 on. A section header has at 4 its type, at 16 its offset and size and
+/// the section that it links to, and at 36 the size of its entries.
 const LABELS: [(usize, u32); 26] = [
     // The file header.
     (0, 0x464c_457f),
@@ -251,7 +252,7 @@ fn looks_for_names_late(rt: HostRuntime) {
 
 const BAD: Option<ElfErr> = Some(ElfErr::BadSymbols(1));
 
-/// Where a number of the file of labels is changed, to what, the answer, and what is wrong.
+/// The offset at which a number of the file of labels is changed, the new number, the answer, and what is wrong.
 const UNSOUND: [(usize, u32, Option<ElfErr>, &str); 9] = [
     (96, 8, BAD, "a name that begins at their end"),
     (96, 7, None, "an empty name at the last NUL"),

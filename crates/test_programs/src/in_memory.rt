@@ -1,4 +1,4 @@
-//! Sources and sinks in memory, as several tests need them.
+//! Sources and sinks in memory for several tests.
 use cf_io::{MemSink, MemSource};
 use std::process::Abort;
 

@@ -2,7 +2,7 @@
 use rv_inst::{ImmOp, Instr, LoadKind, decode_m, encode, fits};
 use rv_text::{TextErr, TextLine, read_instr, read_register, write_instr};
 
-/// Each instruction once, from 0x00010000 on: the word that GNU as 2.40 makes of the text there.
+/// Each instruction once, from 0x00010000 on: the word that GNU as 2.40 produces for the text there.
 const LISTING: [(u32, &str); 49] = [
     (0x1234_52b7, "lui x5, 0x12345"),
     (0xffff_f317, "auipc x6, 0xfffff"),

@@ -1,4 +1,4 @@
-//! Words and values from outside: the manual's encodings and pseudoinstructions.
+//! Words and values from other sources: the manual's encodings and pseudoinstructions.
 ghost use Rattle.std.specs.Prelude.{◌≡◌};
 
 use rv_inst::{
@@ -90,7 +90,7 @@ fn words() -> [(u32, Instr); 16] {
     ]
 }
 
-/// Whether the word is read as the instruction, and written for it.
+/// Whether the word is decoded to the instruction, and the instruction is encoded as the word.
 fn is_word_of(word: u32, instruction: Instr) -> bool {
     decode_m(word) == Some(instruction) && fits(instruction) && encode(instruction) == word
 }

@@ -1,4 +1,4 @@
-//! Values from outside: the manual's table of edge cases of division, and the greatest and least factors.
+//! Values from another source: the manual's table of edge cases of division, and the largest and smallest factors.
 use rv_inst::MulOp;
 use rv_mul::product;
 use std::process::Abort;
@@ -6,7 +6,7 @@ use std::process::Abort;
 /// The factors, and the result.
 type Row = (MulOp, u32, u32, u32);
 
-/// The greatest word and the least signed one, worked out by hand from the manual's definitions.
+/// The largest word and the smallest signed one, worked out by hand from the manual's definitions.
 const UPPER_WORDS: [Row; 4] = [
     (MulOp::Mul, 0xffff_ffff, 0xffff_ffff, 0x0000_0001),
     (MulOp::Mulh, 0x8000_0000, 0x8000_0000, 0x4000_0000),

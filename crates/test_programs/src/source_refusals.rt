@@ -4,7 +4,7 @@ use report_refusals::bad_source;
 use rv_asm::{AsmErr, AsmKind};
 use rv_text::TextErr;
 
-/// A line, what is wrong there, and the text.
+/// A line number, what is wrong there, and the text.
 const TEXTS: [(u32, AsmKind, &[u8]); 5] = [
     (
         1,

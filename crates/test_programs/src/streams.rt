@@ -93,7 +93,7 @@ fn two_files(rt: &(impl Abort + AllocGlobal)) -> Vec<(String, Vec<u8>)> {
     Vec::from_array(rt.alloc(), files).ok().expect(rt, "memory")
 }
 
-/// Reads of the two files, of which the second fails: the name, the most bytes, the answer.
+/// Reads of the two files, the second of which fails: the name, the maximum number of bytes, the answer.
 const READS: [(&str, u64, Result<&[u8], FilesErr>); 4] = [
     ("b", 3, Ok(b"sec")),
     ("b", 9, Err(FilesErr::Failed)),
@@ -140,7 +140,7 @@ fn writer_is_a_sink(rt: HostRuntime) {
     assert!(rt; room == *b"abc");
 }
 
-/// 100,000 times this byte.
+/// This byte, 100,000 times.
 fn many(rt: &(impl Abort + AllocGlobal), byte: u8) -> Vec<u8> {
     let mut bytes = Vec::new(rt.alloc());
     bytes.resize(100_000, byte).ok().expect(rt, "memory");
@@ -156,7 +156,7 @@ fn writer_takes_a_long_piece(rt: HostRuntime) {
     assert!(rt; room.as_slice() == bytes.as_slice());
 }
 
-/// Reads of real files: the name, the most bytes, the answer.
+/// Reads of real files: the name, the maximum number of bytes, the answer.
 const REAL_READS: [(&str, u64, Result<&[u8], FilesErr>); 3] = [
     ("/dev/zero", 5, Ok(&[0; 5])),
     ("/dev/null", 5, Ok(&[])),

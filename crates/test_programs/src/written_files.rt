@@ -1,6 +1,6 @@
-//! What no clause says: that files are written, and that the definitions mean what is wanted. The offsets and numbers
-//! are those of the Tool Interface Standard, Executable and Linking Format Specification; `readelf -a` of GNU binutils
-//! reads the file as it is described here.
+//! What no clause says: that files are written, and that the definitions have the intended meaning. The offsets and
+//! numbers are those of the Tool Interface Standard, Executable and Linking Format Specification; `readelf -a` of GNU
+//! binutils reads the file as described here.
 
 use crate::assembler::object_of;
 use elf_make::write_elf;
@@ -13,7 +13,7 @@ fn written(rt: &(impl Abort + AllocGlobal), source: &[u8]) -> Vec<u8> {
     write_elf(rt.alloc(), &object).ok().expect(rt, "memory")
 }
 
-/// The file is entered at the start of the code, and its segments are empty.
+/// The entry point of the file is the start of the code, and its segments are empty.
 fn assert_empty(rt: &impl Abort, file: &[u8]) {
     let elf = Elf::view(file).ok().expect(rt, "an executable");
     assert!(*rt; elf.entry() == 0x1_0000);

@@ -1,4 +1,4 @@
--- What is expected of the bytes of an outcome.
+-- The expectations about the bytes of an outcome.
 use Rattle.std.specs.Prelude.{◌≡◌, ◌<◌, ℕ, List, length, take}
 use Rattle.test_rows.specs.declared.matching.Matching.{Matching}
 use Rattle.test_rows.specs.declared.matching.Matching.TheVariants.{Whole, Begins, Front, Size}

@@ -2,10 +2,10 @@
 
 use std::alloc::{AllocError, Global};
 
-/// The capacity of the output where a row does not give it.
+/// The capacity of the output if a row does not give it.
 const ROOM: usize = 100_000;
 
-/// A name, and the bytes that it stands for.
+/// A name, and the bytes stored under it.
 pub type NamedBytes = (String, Vec<u8>);
 
 /// A call of the simulator.
@@ -28,13 +28,13 @@ pub struct Call {
 /// The numbers of the calls that fail, counted from 1.
 #[derive(Drop)]
 pub struct FailingCallNumbers {
-    /// Of the reads of files.
+    /// Of the calls that read files.
     pub files: Vec<u64>,
-    /// Of the takes from the input.
+    /// Of the calls that take from the input.
     pub input: Vec<u64>,
-    /// Of the puts to the output.
+    /// Of the calls that write to the output.
     pub output: Vec<u64>,
-    /// Of the puts to the report.
+    /// Of the calls that write to the report.
     pub report: Vec<u64>,
 }
 
@@ -49,7 +49,7 @@ pub struct CallOutcome {
     pub report: Vec<u8>,
 }
 
-/// The bytes under the name, if there are any.
+/// The bytes stored under the name, if there are any.
 pub(crate) fn find<'a>(list: &'a [NamedBytes], name: &str) -> Option<&'a [u8]> {
     for (other, bytes) in list {
         if other.as_str() == name {
@@ -59,7 +59,7 @@ pub(crate) fn find<'a>(list: &'a [NamedBytes], name: &str) -> Option<&'a [u8]> {
     None
 }
 
-/// A copy of the bytes, under the name.
+/// A copy of the bytes, with the name.
 fn copy_under(alloc: Global, name: &str, bytes: &[u8]) -> Result<NamedBytes, AllocError> {
     let name = String::from_str(alloc, name)?;
     Ok((name, bytes.to_vec(alloc)?))

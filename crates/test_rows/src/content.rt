@@ -17,7 +17,7 @@ x24=00000000 x25=00000000 x26=00000000 x27=00000000
 x28=00000000 x29=00000000 x30=00000000 x31=00000000
 ";
 
-/// The first word of a line, and what comes after the space that follows it.
+/// The first word of a line, and the text after the space that follows it.
 pub(crate) fn split(line: &str) -> (&str, &str) {
     match line.split_once(' ') {
         Some((word, rest)) => (word, rest),
@@ -101,7 +101,7 @@ fn add_registers(content: &mut Vec<u8>, words: &str) -> Result<(), LineErr> {
     Ok(())
 }
 
-/// Adds the bytes that are kept under a name.
+/// Adds the bytes that are stored under a name.
 fn copy(content: &mut Vec<u8>, kept: &[NamedBytes], name: &str) -> Result<(), LineErr> {
     match find(kept, name) {
         Some(bytes) => Ok(content.extend_from_slice(bytes)?),
@@ -109,7 +109,7 @@ fn copy(content: &mut Vec<u8>, kept: &[NamedBytes], name: &str) -> Result<(), Li
     }
 }
 
-/// The text with the first occurrence of one text replaced by another.
+/// The bytes, with the first occurrence of `old` replaced by `new`.
 fn replaced(alloc: Global, bytes: &[u8], old: &str, new: &str) -> Result<Vec<u8>, LineErr> {
     let text = str::from_utf8(bytes).unwrap_or("");
     if !text.contains(old) {
@@ -118,7 +118,8 @@ fn replaced(alloc: Global, bytes: &[u8], old: &str, new: &str) -> Result<Vec<u8>
     Ok(text.replacen(alloc, old, new, 1)?.into_bytes())
 }
 
-/// Replaces the first occurrence of one text by another. Both are with `\\n` for line feeds.
+/// Replaces the first occurrence of `old` by `new`. Both have `\
+/// ` for line feeds.
 fn replace(content: &mut Vec<u8>, old: &str, new: &str) -> Result<(), LineErr> {
     let alloc = *content.allocator();
     let old = old.replace(alloc, "\\n", "\n")?;

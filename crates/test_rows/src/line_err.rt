@@ -5,7 +5,7 @@ use std::alloc::{AllocError, AllocFailed};
 /// Why a line is refused.
 #[derive(Debug, Drop)]
 pub enum LineErr {
-    /// There was no memory.
+    /// There was not enough memory.
     NoMemory,
     /// The line is not one of a row.
     Unknown,

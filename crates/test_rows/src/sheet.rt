@@ -10,7 +10,7 @@ use crate::matching::Matching;
 use std::alloc::{AllocError, Global};
 use std::mem;
 
-/// The part of a row to which the next lines give bytes.
+/// The part of a row whose bytes the next lines give.
 #[derive(Clone, Copy)]
 enum Part {
     Nothing,
@@ -41,10 +41,10 @@ pub struct Sheet {
     call: Call,
     wanted: Wanted,
     part: Part,
-    /// What follows the word that began the part: for a file or kept bytes, the name.
+    /// The text after the word that began the part: for a file or stored bytes, the name.
     rest: String,
     content: Vec<u8>,
-    /// Bytes under names, among them the `output` and the `report` of the last call.
+    /// Bytes stored under names, among them the `output` and the `report` of the last call.
     kept: Vec<NamedBytes>,
 }
 
@@ -146,14 +146,14 @@ impl Sheet {
         Ok(&self.call)
     }
 
-    /// Keeps what the row's call wrote, under the names `output` and `report`.
+    /// Stores what the row's call wrote, under the names `output` and `report`.
     pub fn keep(&mut self, outcome: &CallOutcome) -> Result<(), AllocError> {
         let (alloc, kept) = (self.alloc, &mut self.kept);
         keep(alloc, kept, "output", outcome.output.as_slice())?;
         keep(alloc, kept, "report", outcome.report.as_slice())
     }
 
-    /// Begins a row with the call of the row before.
+    /// Begins a row with the same call as the row before.
     fn begin_again(&mut self, name: &str) -> Result<(), LineErr> {
         self.name = Some(String::from_str(self.alloc, name)?);
         self.wanted = nothing_wanted(self.alloc);

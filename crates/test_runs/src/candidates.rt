@@ -14,7 +14,7 @@ fn assert_moves(rt: &impl Abort, candidates: &Candidates, moves: &[Move]) {
     }
 }
 
-/// With the first instruction in stage 2, where it can be executed or passed on, the branch can be issued by three
+/// With the first instruction in stage 2, where it can be executed or can climb, the branch can be issued with three
 /// guesses.
 const AFTER: [Move; 5] = [
     Move::Issue(Guess::Next),
@@ -24,8 +24,8 @@ const AFTER: [Move; 5] = [
     Move::Execute(2),
 ];
 
-/// Of these candidates Climb(2) has the last after it, and Serve, which comes after them all, the first. Holding back
-/// removes the Issues.
+/// Of these candidates, the one after Climb(2) is the last, and the one after Serve, which comes after them all, is the
+/// first. Holding back removes the Issues.
 fn assert_after(rt: &impl Abort, candidates: &mut Candidates) {
     assert_moves(rt, candidates, &AFTER);
     assert!(rt;

@@ -10,13 +10,13 @@ fn delays(rt: &impl Abort, text: &[u8]) -> Delays {
     read_delays(text).expect(rt, "delays")
 }
 
-/// The fewest and the most ticks of a move, where its instruction has a class.
+/// The minimum and maximum ticks of a move whose instruction has a class.
 fn ticks(delays: &Delays, mv: Move, class: Class) -> (u32, u32) {
     let span = delays.of(mv, class);
     (span.least, span.greatest)
 }
 
-/// Spellings of the format: leading zeros, a carriage return, comments and lines without words.
+/// Spellings of the format: leading zeros, a carriage return, comments and blank lines.
 #[test]
 fn delays_that_are_told(rt: HostRuntime) {
     let told = delays(

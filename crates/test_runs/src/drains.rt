@@ -1,4 +1,4 @@
-//! The weight of a processor's state, and drains of one state, worked out by hand from the table of moves.
+//! The weight of a processor's state, and drains of a state, worked out by hand from the table of moves.
 
 use crate::processors::{SEVEN, TINY, core_of, layout_of, make};
 use cf_bind::{Fetch, Guess, Move};
@@ -49,8 +49,8 @@ fn make_all(rt: &(impl Abort + AllocGlobal), core: &mut Core, legs: &[Leg]) {
     }
 }
 
-/// An empty processor weighs nothing. The first instruction weighs 3 in stage 1 of 2, 4 as it is not done, and 4 as it
-/// is not launched where the longest siding has one cell; it requests no register.
+/// An empty processor has weight 0. The first instruction has weight 3 in stage 1 of 2, plus 4 because it is not done,
+/// plus 4 because it is not launched, when the longest siding has one cell; it requests no register.
 #[test]
 fn bounds(rt: HostRuntime) {
     let mut core = core_of(&rt, layout_of(&rt, TINY), SEVEN);
@@ -59,8 +59,8 @@ fn bounds(rt: HostRuntime) {
     assert!(rt; core.bound() == 11, "another bound");
 }
 
-/// The branch is in stage 3, where its unit is, and has not been executed; the shift after it is in stage 1, from which
-/// its siding launches, and has requested x2.
+/// The branch is in stage 3, which has its unit, and has not been executed; the shift after it is in stage 1, from
+/// which its siding launches, and has requested x2.
 fn guessed(rt: &(impl Abort + AllocGlobal)) -> Core {
     let mut core = core_of(rt, layout_of(rt, SHIFT_SIDING), WRONG_GUESS);
     make(rt, &mut core, Move::Issue(Guess::Next));
@@ -85,7 +85,7 @@ const DIES_FIRST: &[Leg] = &[
     Leg::One(Move::Exit),
 ];
 
-/// The shift is launched, dies in stage 2, and takes its operation out of the siding when it is dead.
+/// The shift is launched, dies in stage 2, and takes its operation out of the siding after it has died.
 const DIES_LAUNCHED: &[Leg] = &[
     Leg::One(Move::Emit),
     Leg::Falls(8, 5),
@@ -105,7 +105,8 @@ const DIES_LAUNCHED: &[Leg] = &[
     Leg::One(Move::Recover(3)),
 ];
 
-/// The shift comes back from the siding beside the turn and owes its value, which it must not send, as it dies there.
+/// The shift comes back from the siding while the turn is beside it, and owes its value, which it must not send, as it
+/// dies there.
 const DIES_OWING: &[Leg] = &[
     Leg::One(Move::Emit),
     Leg::Falls(8, 5),
@@ -125,7 +126,7 @@ const DIES_OWING: &[Leg] = &[
     Leg::One(Move::Exit),
 ];
 
-/// What these two leave falls out at the bottom, and both instructions leave at the top.
+/// The results of these two fall out at the bottom, and both instructions leave at the top.
 const LEAVE: &[Leg] = &[
     Leg::One(Move::Fall(2)),
     Leg::One(Move::Exit),
@@ -135,8 +136,7 @@ const LEAVE: &[Leg] = &[
     Leg::One(Move::Leave),
 ];
 
-/// The state after the moves, and others after them, when it is empty: the branch has retired, and fetch goes on at its
-/// target.
+/// The state after these moves and others, when it is empty: the branch has retired, and fetch goes on at its target.
 fn drained(rt: &(impl Abort + AllocGlobal), moves: &[Leg], after: &[Leg]) -> Core {
     let mut core = guessed(rt);
     make_all(rt, &mut core, moves);
@@ -153,14 +153,14 @@ fn assert_drains_to(rt: &(impl Abort + AllocGlobal), moves: &[Leg], other: &Core
     assert!(rt; core.same(other), "another state");
 }
 
-/// That state is not the other one.
+/// That state differs from the other one.
 fn assert_begins_elsewhere(rt: &(impl Abort + AllocGlobal), other: &Core) {
     let core = guessed(rt);
     assert!(rt; !core.same(other), "the same state");
 }
 
-/// All orders of moves that drain one state lead to one state, apart from the cache at the bottom; and that is another
-/// state.
+/// All orders of moves that drain a state lead to the same state, except for the cache at the bottom; and that is a
+/// different state.
 #[test]
 fn drains_end_in_one_state(rt: HostRuntime) {
     let first = drained(&rt, DIES_FIRST, &[]);

@@ -55,8 +55,8 @@ const BARS: [Bar; 21] = [
     Bar::AlreadyDone,
 ];
 
-/// The lines of the ends under a limit of 500, of which a report that failed has none, the names of the bars, and those
-/// of the kinds.
+/// The lines of the ends under a limit of 500 (a failed report has none), the names of the bars, and those of the
+/// kinds.
 const TEXTS: &str = "exit 0
 exit 255
 trap 4 at 00010004 detail 7f0ffffe

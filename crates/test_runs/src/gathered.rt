@@ -1,4 +1,4 @@
-//! A report that gathers its text: the pieces that it puts, and what it has where a put fails.
+//! A report that gathers its text: the pieces that it puts, and what the sink has if a put fails.
 use crate::processors::core_of;
 use cf_core::Core;
 use cf_index::Candidates;
@@ -10,10 +10,10 @@ use cf_sched::Round;
 use run_options::GuessRule;
 use std::process::Abort;
 
-/// How long the text is that is put: three pieces.
+/// The length of the text that is put: three pieces.
 const SIZE: usize = 10_000;
 
-/// A text no two neighbours of which are alike.
+/// A text in which no two neighbouring bytes are the same.
 fn text() -> [u8; SIZE] {
     let mut bytes = [0; SIZE];
     for place in 0..SIZE {
@@ -22,7 +22,7 @@ fn text() -> [u8; SIZE] {
     bytes
 }
 
-/// A report that gathers for a sink in memory of which the puts of these numbers fail.
+/// A report that gathers for a sink in memory, in which the puts with these numbers fail.
 fn report(rt: &(impl Abort + AllocGlobal), fails: &[u64]) -> Gathered<MemSink> {
     let fails = fails.to_vec(rt.alloc()).expect(rt, "memory");
     let mut report = Gathered::new(MemSink::new(rt.alloc(), 20_000, fails).expect(rt, "memory"));
@@ -30,7 +30,7 @@ fn report(rt: &(impl Abort + AllocGlobal), fails: &[u64]) -> Gathered<MemSink> {
     report
 }
 
-/// How many bytes of a text of this many the sink has once it was put, and once it was passed on.
+/// How many bytes of a text of this size the sink has after the text was put, and after it was passed on.
 fn assert_pieces(rt: &(impl Abort + AllocGlobal), size: usize, passed: usize) {
     assert!(rt; size <= SIZE && passed <= SIZE, "too long");
     let text = text();
@@ -53,7 +53,7 @@ fn pieces_of_4096(rt: HostRuntime) {
     assert_pieces(&rt, 10_000, 8192);
 }
 
-/// The put of this number fails: the sink has this many bytes.
+/// The put with this number fails: the sink has this many bytes.
 fn assert_kept(rt: &(impl Abort + AllocGlobal), number: u64, passed: usize) {
     assert!(rt; passed <= SIZE, "too long");
     let text = text();
@@ -65,7 +65,7 @@ fn assert_kept(rt: &(impl Abort + AllocGlobal), number: u64, passed: usize) {
     );
 }
 
-/// Of three pieces the first, the second and the last one.
+/// The first, the second and the last of three pieces.
 #[test]
 fn a_prefix_where_a_put_fails(rt: HostRuntime) {
     assert_kept(&rt, 1, 0);
@@ -85,7 +85,7 @@ fn a_failed_piece_is_kept(rt: HostRuntime) {
     assert!(rt; report.sink().bytes() == b"abc".as_slice(), "other bytes");
 }
 
-/// Before it is asked to gather, it passes on each piece at once.
+/// Before it is asked to gather, it passes on each piece immediately.
 #[test]
 fn at_once_without_gathering(rt: HostRuntime) {
     let mut report = Gathered::new(output(&rt, 100));
@@ -108,7 +108,7 @@ const LINES: &[u8] = b"retire 1 00010000 00100513 x10=00000001\n\
     retire 3 00010008 000105b7 x11=00010000\n\
     retire 4 0001000c 04000893 x17=00000040\n";
 
-/// How the run of the program ends that shows each instruction as it retires.
+/// How the run of the program ends when each instruction is shown as it retires.
 fn run_writes(
     rt: &(impl Abort + AllocGlobal),
     output: &mut MemSink,

@@ -1,5 +1,5 @@
-//! Tests of public calls of the processor, its candidates, schedules and delays, reports, and the debugger, a file for
-//! each subject: a crate that has tests of its own is proved a second time with them.
+//! Tests of public calls of the processor, its candidates, schedules and delays, reports, and the debugger, with one
+//! file for each subject: a crate that has tests of its own is proved a second time with them.
 #![tactic(auto)]
 
 #[cfg(test)]

@@ -1,4 +1,4 @@
-//! Logs of circuits: moves and observations that are as they should be, and why a log is refused, with its line.
+//! Logs of circuits: moves and observations that are correct, and why a log is refused, with its line.
 
 use crate::processors::{SEVEN, TINY, core_of, layout_of};
 use cf_conform::{Conformed, LogProgress, conform};
@@ -22,7 +22,7 @@ fn bytes_of(rt: &(impl Abort + AllocGlobal), bytes: &[u8]) -> Vec<u8> {
     list
 }
 
-/// How a log ends that comes in pieces of this size, under a limit, and what is noted of it.
+/// How a log ends that comes in pieces of this size, under a limit, and what is recorded about it.
 fn judged(
     rt: &(impl Abort + AllocGlobal),
     text: &[u8],
@@ -38,7 +38,7 @@ fn judged(
     (answer, progress)
 }
 
-/// The line that is refused and the name of the reason, or how else a log ends.
+/// The line that is refused and the name of the reason, or how a log ends otherwise.
 fn end_of(answer: Conformed) -> (u32, &'static str) {
     match answer {
         Conformed::BadLog(refusal) => (refusal.line, kind_name(refusal.kind)),
@@ -71,7 +71,7 @@ fn assert_end(rt: &(impl Abort + AllocGlobal), text: &[u8], line: u32, name: &st
     assert!(rt; why == name, "another end");
 }
 
-/// The log agrees, however its bytes come.
+/// The log agrees, whatever the pieces in which its bytes come.
 #[test]
 fn agrees(rt: HostRuntime) {
     for piece in [1, 7, 4096] {
@@ -83,7 +83,7 @@ fn agrees(rt: HostRuntime) {
     }
 }
 
-/// The limit is looked at before each line and before the end.
+/// The limit is tested before each line and before the end.
 #[test]
 fn limits(rt: HostRuntime) {
     let (answer, progress) = judged(&rt, MOVES, 4096, 1);
@@ -114,7 +114,7 @@ fn refusals(rt: HostRuntime) {
     assert_end(&rt, b"issue next\nemit\n", 2, "Barred");
 }
 
-/// Observations that are not as they should be.
+/// Observations that are wrong.
 #[test]
 fn differences(rt: HostRuntime) {
     assert_end(&rt, b"issue next\nfetch 00010008\n", 2, "Differs");

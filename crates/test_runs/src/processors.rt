@@ -73,7 +73,7 @@ pub(crate) fn core_of(rt: &(impl Abort + AllocGlobal), layout: Layout, words: &[
     Core::new(rt.alloc(), layout, machine).expect(rt, "memory")
 }
 
-/// Makes a move, which nothing bars.
+/// Makes a move that nothing bars.
 pub(crate) fn make(rt: &impl Abort, core: &mut Core, mv: Move) {
     assert!(rt; core.allowed(mv).is_none(), "barred");
     assert!(rt; core.retired() <= 1000, "too many retired");

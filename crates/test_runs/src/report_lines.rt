@@ -34,14 +34,14 @@ fn register(reg: u8, value: Option<u32>) -> Option<Binding> {
     Some(Binding { reg, value })
 }
 
-/// A stage with nothing in it.
+/// An empty stage.
 const EMPTY: Cell = Cell {
     passenger: None,
     packet: None,
     met: false,
 };
 
-/// A stage with an instruction alone.
+/// A stage with only an instruction.
 fn instruction_alone(passenger: Passenger) -> Cell {
     Cell {
         passenger: Some(passenger),
@@ -49,7 +49,7 @@ fn instruction_alone(passenger: Passenger) -> Cell {
     }
 }
 
-/// A stage with a result alone.
+/// A stage with only a result.
 fn result_alone(packet: Packet) -> Cell {
     Cell {
         packet: Some(packet),
@@ -180,7 +180,7 @@ fn operation(answer: Option<u32>) -> Option<Op> {
     })
 }
 
-/// The lines of stages, from runs that were worked out by hand, and one for each form besides; an empty stage has none.
+/// The lines of stages, from runs that were worked out by hand, and one for each further form; an empty stage has none.
 /// Then the parts beside the stages, and the other lines.
 const LINES: &str = "stage 1 complete | 00010000 next done - - x10=00000007 - | x10=00000007
 stage 2 instruction | 00010000 next done x01=00000000 - x01=00000001 x01=00000001
@@ -240,7 +240,7 @@ fn put_stages(rt: &impl Abort, report: &mut MemSink) {
     }
 }
 
-/// Writes the lines of the parts beside the stages, and the others.
+/// Writes the lines of the parts beside the stages, and the other lines.
 fn put_others(rt: &impl Abort, report: &mut MemSink) {
     let puts = [
         put_fetch(Fetch::Running(0x0001_0008), report),

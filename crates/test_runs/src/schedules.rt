@@ -1,7 +1,7 @@
 //! Picks that were worked out by hand, and words of the generator. The words are those of PCG XSH RR 64/32 (O'Neill,
 //! "PCG: a family of simple fast space-efficient statistically good algorithms for random number generation", 2014),
-//! worked out with whole numbers in Python by a program that gives the words of the paper's C demo, 0xa15c02b7 and so
-//! on, for state 42 and stream 54.
+//! computed with integers in Python by a program that gives the words of the paper's C demo, 0xa15c02b7 and so on, for
+//! state 42 and stream 54.
 use crate::processors::{BRANCH_BEHIND, core_of, enter_stage_2};
 use cf_bind::{Guess, Move};
 use cf_core::Core;
@@ -30,14 +30,14 @@ fn words_of_three_seeds(rt: HostRuntime) {
     );
 }
 
-/// A processor with the first instruction in stage 2: Issue by three guesses, Climb(2) and Execute(2) are allowed.
+/// A processor with the first instruction in stage 2: Issue with three guesses, Climb(2) and Execute(2) are allowed.
 fn core(rt: &(impl Abort + AllocGlobal)) -> Core {
     let mut core = core_of(rt, plain(), BRANCH_BEHIND);
     enter_stage_2(rt, &mut core);
     core
 }
 
-/// Six picks in turn from the same candidates.
+/// Six consecutive picks from the same candidates.
 fn picks<P: Policy>(rt: &impl Abort, policy: &mut P, candidates: &Candidates) -> [usize; 6] {
     let mut places = [0; 6];
     for place in places.iter_mut() {
@@ -47,7 +47,7 @@ fn picks<P: Policy>(rt: &impl Abort, policy: &mut P, candidates: &Candidates) ->
     places
 }
 
-/// Round begins again after the last; Drawn picks its words modulo 5.
+/// Round starts again after the last; Drawn takes its words modulo 5.
 #[test]
 fn picks_from_five(rt: HostRuntime) {
     let mut candidates = Candidates::new(rt.alloc()).expect(&rt, "memory");

@@ -62,7 +62,7 @@ fn answer(
     debug(core, &mut candidates, &mut ring, commands, output, report)
 }
 
-/// How a session ends whose answers go to the report.
+/// How a session ends if its answers go to the report.
 fn run(rt: &(impl Abort + AllocGlobal), session: &Session<'_>, report: &mut MemSink) -> Debugged {
     let mut core = core_of(rt, layout_of(rt, TINY), session.words);
     let mut commands = source_of(rt, session);
@@ -70,7 +70,7 @@ fn run(rt: &(impl Abort + AllocGlobal), session: &Session<'_>, report: &mut MemS
     answer(rt, &mut core, &mut commands, &mut output, report)
 }
 
-/// A session ends in this way with these answers, for which the report has room for this many bytes.
+/// A session ends in this way with these answers, when the report has room for this many bytes.
 fn assert_session(
     rt: &(impl Abort + AllocGlobal),
     session: &Session<'_>,
@@ -96,15 +96,15 @@ fn assert_answers(rt: &(impl Abort + AllocGlobal), commands: &[u8], piece: usize
     assert_session(rt, &session, 200_000, Debugged::Done, answers);
 }
 
-/// The commands of the first example, and what they answer: `addi` weighs 3 in stage 1 of 2, 4 as it is not done, and 4
-/// as it is not launched where the longest siding has one cell.
+/// The commands of the first example, and their answers: `addi` has weight 3 in stage 1 of 2, plus 4 because it is not
+/// done, plus 4 because it is not launched, when the longest siding has one cell.
 const COMMANDS: &[u8] = b"move issue next\nbound\nmove leave\nback\nbound\nback\n\
     mem 7f0ffff0 4\nmem 00000000 4\nfrob\nend\n";
 
 const ANSWERS: &[u8] = b"moved\nbound 11\n? NoPassenger\nback issue next\nbound 0\n? NothingKept\n\
     7f0ffff0 00 00 00 00\n? NoAccess\n? UnknownCommand\n";
 
-/// The answers are the same however the commands come, and whether or not the last line has a line feed.
+/// The answers are the same whatever the pieces of the commands, and whether or not the last line has a line feed.
 #[test]
 fn pieces(rt: HostRuntime) {
     assert_answers(&rt, COMMANDS, 1, ANSWERS);
@@ -112,8 +112,7 @@ fn pieces(rt: HostRuntime) {
     assert_answers(&rt, COMMANDS, 4096, ANSWERS);
 }
 
-/// The session of those commands on `SEVEN`, given in pieces of 8 bytes, of which this take fails, is ended by that
-/// with these answers.
+/// The session of those commands on `SEVEN`, given in pieces of 8 bytes, ends with these answers when this take fails.
 fn assert_take_fails(rt: &(impl Abort + AllocGlobal), take: u64, answers: &[u8]) {
     let session = Session {
         words: SEVEN,
@@ -125,7 +124,7 @@ fn assert_take_fails(rt: &(impl Abort + AllocGlobal), take: u64, answers: &[u8])
     assert_session(rt, &session, 200_000, Debugged::ReadFault, answers);
 }
 
-/// A take that fails leaves the answers to the lines that were taken whole before it: pieces of 8 bytes end in the
+/// A take that fails leaves the answers to the complete lines that were taken before it: pieces of 8 bytes end in the
 /// first line, then in the first and then in the second.
 #[test]
 fn failing_takes(rt: HostRuntime) {
@@ -166,7 +165,7 @@ fn push_blanks(rt: &impl Abort, line: &mut Vec<u8>, count: u32) {
     }
 }
 
-/// A line of 256 bytes is read, even with a carriage return after it, and one of 257 is too long, even where it is the
+/// A line of 256 bytes is read, even with a carriage return after it, and one of 257 is too long, even if it is the
 /// last.
 #[test]
 fn long_lines(rt: HostRuntime) {
@@ -181,7 +180,7 @@ fn long_lines(rt: HostRuntime) {
 }
 
 /// The program runs to its end in 19 moves, worked out by hand from the table of moves and the order of Round: Serve is
-/// the 17th, so two are taken back after it, and no more. No move is made after the end.
+/// the 17th, so two moves can be taken back after it, and no more. No move is made after the end.
 #[test]
 fn to_the_end(rt: HostRuntime) {
     let commands = b"auto 1000000\nauto 5\nmove emit\nmove serve\nback\nback\nback\nmove emit\n";
@@ -191,8 +190,8 @@ fn to_the_end(rt: HostRuntime) {
     assert_answers(&rt, commands, 4096, answers);
 }
 
-/// `auto` stops after the Issue at the break address, even where that is its first move. The first instruction is
-/// issued, climbs, is executed, sends its result and leaves before the second is issued.
+/// `auto` stops after the Issue at the break address, even if that is its first move. The first instruction is issued,
+/// climbs, is executed, sends its result and leaves before the second is issued.
 #[test]
 fn break_address(rt: HostRuntime) {
     let commands = b"break 00010000\nauto 100\nback\nbreak 00010004\nauto 100\nbreak none\nshow\n";
@@ -258,14 +257,14 @@ fn taken_back(rt: &(impl Abort + AllocGlobal), times: u32) -> Vec<u8> {
     commands
 }
 
-/// The last answer says that nothing is kept, and is the only refusal.
+/// The last answer says that nothing is stored, and is the only refusal.
 fn assert_refused_last(rt: &impl Abort, answers: &[u8]) {
     assert!(rt; answers.ends_with(b"\n? NothingKept\n"), "too much kept");
     let refused = answers.iter().filter(|byte| **byte == b'?').count();
     assert!(rt; refused == 1, "another count of refusals");
 }
 
-/// Of 2,000 moves the last 1,024 are taken back, and no more.
+/// Of 2,000 moves, the last 1,024 can be taken back, and no more.
 #[test]
 fn full_ring(rt: HostRuntime) {
     let commands = taken_back(&rt, 1025);

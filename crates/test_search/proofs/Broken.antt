@@ -9,7 +9,7 @@ use Rattle.order_search.specs.Paths.{EdgeView, HasEdgeFault}
 use Rattle.order_search.specs.Views.{IsJudged}
 use Rattle.test_search.specs.Ladders.{IsBroken, fault_at}
 
--- the fault of going along an edge to the node with a number: edges have none of their own
+-- the fault of an edge to the node with a number: edges have none of their own
 along : (broken : Option ℕ) (from node : List ℕ) (label number : ℕ) (fault : Option ℕ) → fault ≡ fault_at broken number → node ≡ number ∷ [] →
     MatchOption fault ((f : ℕ) → HasEdgeFault (λ (k : List ℕ) (d : EdgeView ℕ) (g : ℕ). ⊥) (IsBroken broken) from (record { label = label; node = node }) f → ⊥)
     (λ f. HasEdgeFault (λ (k : List ℕ) (d : EdgeView ℕ) (g : ℕ). ⊥) (IsBroken broken) from (record { label = label; node = node }) f)

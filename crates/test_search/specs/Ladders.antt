@@ -12,7 +12,7 @@ rungs last node = if nat_lt (slice_index node 0) last
     then (record { label = 0; node = (slice_index node 0 + 1) ∷ [] }) ∷ (record { label = 1; node = (slice_index node 0 + 1) ∷ [] }) ∷ []
     else []
 
--- the broken node says its number
+-- the fault of the broken node is its number
 abbrev pub IsBroken : Option ℕ → List ℕ → ℕ → Type 0
 IsBroken broken node fault = (broken ≡ Some (slice_index node 0)) × (fault ≡ slice_index node 0)
 

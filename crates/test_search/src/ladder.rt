@@ -6,15 +6,15 @@ ghost use Rattle.test_search.specs.Ladders.{fault_at};
 use order_search::{Edge, Graph};
 use std::alloc::{AllocError, Global};
 
-/// A ladder: two edges lead from each node to the next, up to the last, which none leaves. A node is the byte of its number.
-/// One of them may be broken.
+/// A ladder: two edges lead from each node to the next, up to the last, which has no outgoing edge. A node is the byte
+/// of its number. One of the nodes may be broken.
 #[derive(Drop)]
 pub(crate) struct Ladder {
     pub(crate) last: u8,
     pub(crate) broken: Option<u8>,
 }
 
-/// The fault of the node with a number, where this one is broken.
+/// The fault of the node with a number; only the node with the number `broken` has one.
 fn fault_of(broken: Option<u8>, number: u8) -> Option<u8>
     ensures { result ≡ fault_at broken number }
 {
@@ -24,7 +24,7 @@ fn fault_of(broken: Option<u8>, number: u8) -> Option<u8>
     }
 }
 
-/// An edge to the node with a number, where this one is broken.
+/// An edge to the node with a number; only the node with the number `broken` has a fault.
 fn edge_to(
     alloc: Global,
     label: u8,

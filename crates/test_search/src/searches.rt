@@ -1,4 +1,4 @@
-//! Searches of ladders: what is expected was counted by hand.
+//! Searches of ladders: the expected values were counted by hand.
 
 ghost use Rattle.std.specs.Prelude.{◌≤◌};
 
@@ -7,7 +7,7 @@ use order_search::{Orders, SearchAnswer, search};
 use std::alloc::Global;
 use std::process::Abort;
 
-/// The answer of a search of a ladder from its first node, of at most so many nodes.
+/// The answer of a search of a ladder from its first node, of at most this many nodes.
 fn climb(rt: &impl Abort, alloc: Global, ladder: &mut Ladder, most: u32) -> SearchAnswer<u8, u8>
     requires { 1 ≤ most }
 {

@@ -3,7 +3,7 @@ use Rattle.std.specs.Prelude.{ℕ, List, ◌++◌, codes, decimal, ◌==◌, if�
 use Rattle.texts.specs.Hexadecimal.{hex8}
 use Rattle.texts.specs.Lines.{line, register_name}
 
--- a register with its value, or `-` where none was written
+-- a register with its value, or `-` if none was written
 abbrev pub written_register : ℕ → ℕ → List ℕ
 written_register r value =
     if r == 0 then codes "-" else register_name r ++ codes "=" ++ hex8 value

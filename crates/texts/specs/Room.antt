@@ -2,6 +2,6 @@
 use Rattle.std.specs.Prelude.{ℕ}
 use Rattle.texts.specs.declared.page.TheConstants.{ROOM}
 
--- the bytes that a page has room for
+-- the number of bytes that fit into a page
 abbrev pub page_room : ℕ
 page_room = ROOM

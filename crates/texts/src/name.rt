@@ -4,7 +4,7 @@ ghost use Rattle.std.specs.Prelude.{◌≡◌, string_bytes};
 
 use std::marker::Model;
 
-/// A name, such as that of a label or of a key: made from a `String`, which it lends.
+/// A name, such as that of a label or of a key: it owns a `String`, and gives access to its text by reference.
 #[derive(Drop)]
 pub struct Name {
     text: String,

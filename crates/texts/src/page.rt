@@ -11,7 +11,7 @@ use arrayvec::ArrayVec;
 use itoa::Buffer;
 use std::marker::Model;
 
-/// How many bytes a page has room for: 416 for the 32 registers, and 224 for the lines before them.
+/// How many bytes fit into a page: 416 for the 32 registers, and 224 for the lines before them.
 const ROOM: usize = 640;
 
 /// A page of text in a fixed buffer, which allocates no memory. It has room for a line of each kind, a count and the 32

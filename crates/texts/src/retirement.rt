@@ -8,7 +8,7 @@ ghost use Rattle.texts.specs.Room.{page_room};
 use crate::page::Page;
 
 impl Page {
-    /// Appends the register that an instruction wrote, with its value, or `-` where it wrote none.
+    /// Appends the register that an instruction wrote, with its value, or `-` if it wrote none.
     fn push_written(&mut self, register: u8, value: u32)
         requires { length self.old + 12 ≤ page_room }
         ensures text { self.new ≡ self.old ++ written_register register value }

@@ -1,5 +1,5 @@
--- The candidates: every allowed move but an Issue to an address is one of them; there is a candidate where the program
--- goes on; and under the hold rule an Issue is a candidate only where no other move is allowed.
+-- The candidates: every allowed move but an Issue to an address is one of them; there is a candidate while the program
+-- goes on; and under the hold rule an Issue is a candidate only if no other move is allowed.
 use Rattle.std.proofs.Common.{◌≡◌, ℕ, zero, suc, ◌+◌, ◌-◌, ◌≤◌, ◌<◌, List, [], ◌∷◌, ◌++◌, length, map, filter, Option, Some, None, Bool, true, false, not, refl, sym, ap, subst, ◌∙◌, arith, cond}
 use Rattle.std.specs.Prelude.{slice_get, nat_lt, unwrap_or, if◌then◌else◌}
 use Rattle.cf_layout.specs.Layout.{Plan, SidingPlan, cells_of, no_siding}
@@ -263,7 +263,7 @@ none_has : {A : Type 0} → (xs : List A) (x : A) → xs ≡ [] → Has xs x →
 none_has [] x e h = let z = h.there in cc
 none_has (y ∷ xs) x e h = absurd (cc)
 
--- with no other candidate no move but Issue is allowed
+-- if there is no other candidate, no move but Issue is allowed
 pub no_other_stuck : (l : Plan) (s : State) → HasShape l s → other_moves (candidates l s) ≡ [] → IsStuck l s
 no_other_stuck l s h n = λ mv i e. none_has (other_moves (candidates l s)) mv n (has_filter (λ v. not (is_issue v)) (candidates l s) mv (rw i refl)
     (is_candidate l s mv h i e))
@@ -286,7 +286,7 @@ held_stuck l s k mv h e i = go (other_moves (candidates l s)) refl e
         ∙ sym (ap (λ (b : Bool). slice_get (if b then y ∷ xs else candidates l s) k) (some_there y xs)) ∙ e in
         absurd (clash (ap not (sym i) ∙ (kept_passes (λ v. not (is_issue v)) (candidates l s) k mv g).0))
 
--- there is a move to pick, with Issue held back or not
+-- there is a move to pick, whether or not Issue is held back
 pub some_pick : (l : Plan) (s : State) → HasShape l s → (IsStuck l s → bar l s (Issue Next) ≡ None) →
     ((mv : Move) × Has (candidates l s) mv) × ((mv : Move) × Has (held_back (candidates l s)) mv)
 unfolding held_back

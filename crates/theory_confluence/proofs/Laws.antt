@@ -44,7 +44,7 @@ move_costs plan x m mv acc wide reached allowed =
     let h = reached_holds plan x m acc wide reached in
     costs plan m h.machine mv (accepted_suits plan acc) allowed (sound_at plan x m mv allowed h)
 
--- seen from outside, a move is no step of the sequential machine, or exactly its next one
+-- seen from outside, a move either is not a step of the sequential machine or is exactly its next one
 pub move_stutters : (plan : Plan) (x : Machine) (m : Moment) (mv : Move) → IsAccepted plan → length x.hart.regs ≡ 32 → IsReached plan x m →
     bar plan m.state mv ≡ None → Stutters plan x m mv
 move_stutters plan x m mv acc wide reached allowed = stutters plan x m mv (accepted_suits plan acc) allowed (reached_holds plan x m acc wide reached)
@@ -77,8 +77,8 @@ pub drain_bounded : (plan : Plan) (x : Machine) (m : Moment) (moves : List Move)
 drain_bounded plan x m moves acc wide reached allowed held = bounded_drain plan x m moves (accepted_suits plan acc)
     (reached_holds plan x m acc wide reached) allowed held
 
--- with Issue held back a run that cannot be extended retires the instructions on the path; it ends the program with the
--- next step where that is on the path too, and else it ends drained
+-- with Issue held back a maximal run retires the instructions on the path; it ends the program with the next step if
+-- that is on the path too, and otherwise it ends drained
 pub drain_ends : (plan : Plan) (x : Machine) (m t : Moment) → IsAccepted plan → length x.hart.regs ≡ 32 → IsReached plan x m → m.state.ending ≡ None →
     Drains plan m t → EndsAs plan x m t
 drain_ends plan x m t acc wide reached going d = ends_as plan x m t (accepted_suits plan acc) (reached_tidy plan x m reached)
@@ -111,7 +111,7 @@ reached_shape plan x m acc wide reached going =
     let s : Sound plan m.state m.rest m.output h.machine = subst (HoldsAt plan m.state m.rest m.output h.machine) going h.stage in
     record { cells = s.size; sidings = s.moored.berths }
 
--- where the candidates are held, an Issue is one of them only if no other move is allowed, as the hold rule requires
+-- while the candidates are held, an Issue is one of them only if no other move is allowed, as the hold rule requires
 pub held_stuck : (plan : Plan) (x : Machine) (m : Moment) (k : ℕ) (mv : Move) → IsAccepted plan → length x.hart.regs ≡ 32 → IsReached plan x m →
     m.state.ending ≡ None → slice_get (held_back (candidates plan m.state)) k ≡ Some mv → is_issue mv ≡ true → IsStuck plan m.state
 held_stuck plan x m k mv acc wide reached going there issue = candidates_held plan m.state k mv (reached_shape plan x m acc wide reached going) there issue
@@ -140,7 +140,7 @@ pub independent_swap : (plan : Plan) (m : Moment) (a b : Move) → AreIndependen
 independent_swap plan m a b i e f =
     (sym (bar_after plan m a b i e) ∙ f, sym (bar_after plan m b a (turned_round plan m.state a b i) f) ∙ e, same_moment plan m a b i e f)
 
--- the second of two neighbouring moves is allowed before the first, where the two are independent there
+-- the second of two neighbouring moves is allowed before the first, if the two are independent there
 pub independent_before : (plan : Plan) (m : Moment) (a b : Move) → AreIndependent plan m.state a b → bar plan m.state a ≡ None →
     bar plan (next plan m a).state b ≡ None → bar plan m.state b ≡ None
 independent_before plan m a b i e f = bar_after plan m a b i e ∙ f

@@ -1,4 +1,4 @@
--- A move is taken back by the old contents of what it wrote.
+-- A move is taken back by means of the old contents of what it wrote.
 pub mod BytesBack
 pub mod PutBack
 pub mod TakenBack

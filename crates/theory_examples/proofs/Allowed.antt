@@ -26,7 +26,7 @@ is_run plan m (mv ∷ moves) e = by (bar plan m.state mv) refl e (is_run plan (n
     by None f e more = (f, more e)
     by (Some b) f e more = absurd (cc)
 
--- what computes, put together
+-- what has to be computed, put together
 pub ends : {plan : Plan} {x : Machine} {moves : List Move} {s : State} → first_bar plan (start plan x) moves ≡ None → after_moves plan x moves ≡ s →
     EndsIn plan x moves s
 ends {plan} {x} {moves} {s} e f = record { allowed = is_run plan (start plan x) moves e; ends = f }

@@ -1,4 +1,4 @@
--- Worked runs: three orders of moves drain one state, in which a wrong guess is under way, to one end.
+-- Worked runs: three orders of moves drain one state, with a wrong guess in flight, to the same end.
 use Rattle.std.specs.Prelude.{◌≡◌, ◌++◌, List, [], ◌∷◌, refl}
 use Rattle.rv_machine.specs.Machine.{Machine}
 use Rattle.cf_layout.specs.Plain.{plain}

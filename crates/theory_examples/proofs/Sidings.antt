@@ -55,7 +55,7 @@ branch_by_8 = instr.Branch cond.Eq 0 0 (pos 8)
 abbrev pub shift_x1 : Instr
 shift_x1 = instr.OpImm imm_op.Sll 1 0 (pos 1)
 
--- A shift is launched, and dies by the turn of the branch; its operation is still under way.
+-- A shift is launched, and is killed by the turn of the branch; its operation is still in flight.
 pub dead_and_launched : EndsIn shifts_aside skipping_a_shift
     (Issue Next ∷ Climb 1 ∷ Climb 2 ∷ Issue Next ∷ Launch 1 ∷ Climb 1 ∷ Execute 3 ∷ Send 3 ∷ Fall 3 ∷ Meet 2 ∷ Climb 3 ∷ Climb 2 ∷ [])
     (record (opened shifts_aside skipping_a_shift) {

@@ -68,7 +68,7 @@ pub younger_turn_first : EndsIn two_jump_units two_turns
 unfolding on_literals
 younger_turn_first = ends refl refl
 
--- and the older branch turns it once more, and kills the jump.
+-- and the older branch turns it again, and kills the jump.
 pub older_turn_wins : EndsIn two_jump_units two_turns
     (Issue Next ∷ Climb 1 ∷ Climb 2 ∷ Issue Next ∷ Execute 1 ∷ Send 1 ∷ Exit ∷ Execute 3 ∷ Send 3 ∷ Fall 3 ∷ Fall 2 ∷ Meet 1 ∷ Exit ∷ [])
     (record (opened two_jump_units two_turns) {

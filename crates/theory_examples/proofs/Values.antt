@@ -115,7 +115,7 @@ issue_taken_back = refl
 abbrev pub multiplying : Machine
 multiplying = sample (0xb3 ∷ 0x02 ∷ 0x73 ∷ 0x02 ∷ [])
 
--- Where the layout does not multiply, the word is not an instruction: it traps where it is issued.
+-- If the layout does not multiply, the word is not an instruction: it traps when it is issued.
 pub no_multiplication : EndsIn tiny multiplying
     (Issue Next ∷ [])
     (record (opened tiny multiplying) {

@@ -12,12 +12,12 @@ use Rattle.cf_semantics.specs.runs.Runs.{IsRun, run, start}
 abbrev pub after_moves : Plan → Machine → List Move → State
 after_moves plan x moves = (run plan (start plan x) moves).state
 
--- each move is allowed where it is made, and the last leaves this state
+-- each move is allowed when it is made, and the last leaves this state
 pub record EndsIn (plan : Plan) (x : Machine) (moves : List Move) (s : State) : Type 0 where
   pub allowed : IsRun plan (start plan x) moves
   pub ends : after_moves plan x moves ≡ s
 
--- each move is allowed where it is made, and after them this bars the next one
+-- each move is allowed when it is made, and after them this bars the next one
 pub record IsBarred (plan : Plan) (x : Machine) (moves : List Move) (mv : Move) (why : Bar) : Type 0 where
   pub allowed : IsRun plan (start plan x) moves
   pub barred : bar plan (after_moves plan x moves) mv ≡ Some why

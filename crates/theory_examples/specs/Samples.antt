@@ -12,11 +12,11 @@ use Rattle.cf_bind.specs.declared.packet.Packet.{Packet}
 use Rattle.cf_bind.specs.declared.passenger.Passenger.{Passenger}
 use Rattle.cf_bind.specs.declared.passenger.Guess.TheVariants.{Next}
 
--- loads and stores leave at stage 1 and come back at stage 2; one can be under way
+-- loads and stores leave at stage 1 and come back at stage 2; one can be in flight
 abbrev pub short_siding : SidingPlan
 short_siding = record { classes = MemoryClass ∷ []; launch = 1; recover = 2; cells = 1 }
 
--- two stages: adders at both, a shifter at the upper one, all else at the lower one
+-- two stages: adders at both, a shifter at the upper one, all other units at the lower one
 abbrev pub tiny : Plan
 tiny = record {
   stages = 2;

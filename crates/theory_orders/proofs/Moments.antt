@@ -1,4 +1,4 @@
--- A moment that a run reaches is wrong by none of the tests: where no move leads on, the program has ended or the
+-- A moment that a run reaches is wrong by none of the tests: if no move leads on, the program has ended or the
 -- processor is drained at the sequential machine.
 use Rattle.std.proofs.Common.{◌≡◌, List, [], ◌∷◌, filter, Option, Some, Bool, true, false, not, refl, sym, subst, ◌∙◌, arith, length}
 use Rattle.rv_machine.specs.Machine.{Machine}

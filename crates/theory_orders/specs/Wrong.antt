@@ -37,7 +37,7 @@ pub record EndsRightly (isa : Isa) (x : Machine) (t : State) (e : End) : Type 0 
   pub regs : t.regs ≡ x.hart.regs
   pub mem : t.mem ≡ x.hart.mem
 
--- the move, which leads to the state t, ends the program otherwise
+-- the move, which leads to the state t, ends the program in another way
 abbrev pub EndsWrongly : Isa → Machine → State → Type 0
 EndsWrongly isa x t = (e : End) × (t.ending ≡ Some e) × (EndsRightly isa x t e → ⊥)
 
@@ -48,7 +48,7 @@ pub record IsServedRightly (isa : Isa) (x : Machine) (m : Moment) (p : Passenger
   pub what : fetched isa x.hart.mem x.hart.pc ≡ Got (instruction p)
   pub answer : serve_of (instruction p) m.state.regs m.state.mem m.rest ≡ serve_of (instruction p) x.hart.regs x.hart.mem x.rest
 
--- the instruction of the highest stage is another one, or is answered otherwise
+-- the instruction of the highest stage is another one, or is answered in another way
 pub record IsServedWrongly (plan : Plan) (x : Machine) (m : Moment) : Type 0 where
   pub here : Cell
   pub at_here : cell_at m.state.cells plan.stages ≡ Some here
@@ -60,8 +60,8 @@ pub record IsServedWrongly (plan : Plan) (x : Machine) (m : Moment) : Type 0 whe
 abbrev pub ServesWrongly : Plan → Machine → Moment → Move → Type 0
 ServesWrongly plan x m mv = (mv ≡ Serve) × IsServedWrongly plan x m
 
--- the moves that lead on from a state, by what bars each move there: the candidates, without Issue once as many Issue
--- moves were made as there may be
+-- the moves that lead on from a state, by what bars each move there: the candidates, without Issue once the maximum
+-- number of Issue moves was made
 unfoldable pub leading : (Move → Option Bar) → Bool → List Move → List Move
 leading bars may_issue moves = filter (λ mv. not (is_some (bars mv)) && (may_issue || not (is_issue mv))) moves
 

@@ -1,4 +1,4 @@
--- Also over an input whose remaining bytes are unknown, a run has a bounded number of moves for each Issue.
+-- Even over an input whose remaining bytes are unknown, a run has a bounded number of moves for each Issue.
 use Rattle.std.proofs.Common.{◌≡◌, ℕ, suc, ◌+◌, ◌*◌, ◌≤◌, List, [], ◌∷◌, ◌++◌, None, sym, ap, ◌∙◌, arith, length, ◌⊎◌, inl, inr}
 use Rattle.rv_machine.specs.Machine.{Machine}
 use Rattle.cf_layout.specs.Accepted.{IsAccepted}
@@ -21,7 +21,7 @@ use Rattle.theory_unknown_input.proofs.Found.{found}
 use Rattle.theory_unknown_input.proofs.Rechosen.{over}
 use Rattle.theory_unknown_input.proofs.Theorems.{anew_kept, anew_started, held_anew}
 
--- what a move costs where the invariant holds with the input that the move finds
+-- what a move costs if the invariant holds with the input that the move finds
 costs_by : (plan : Plan) (x : Machine) (m : Moment) (mv : Move) → Suits plan → bar plan m.state mv ≡ None → HoldsAfter plan x m →
     suc (weight plan (next plan m mv).state) ≤ weight plan m.state + moves_per_issue plan * counts (is_issue mv) 1
 costs_by plan x m mv acc free h = costs plan m h.machine mv acc free (sound_at plan x m mv free h)
@@ -38,7 +38,7 @@ costs_anew plan start m mv rest written acc free h = go (found plan m mv h.rest 
         ∙ free) h.level h.held h.clear)
     go (inr is) = rw is (costs_by plan h.at (finding h.rest m) mv acc free h.held)
 
--- so do several
+-- and so do several moves
 paid : (plan : Plan) (start : Machine) (m last : Moment) (moves : List Move) (written later : List Line) → Suits plan → LeadsTo plan m moves last later →
     HoldsAnew plan start written m
     → length moves + weight plan last.state ≤ weight plan m.state + moves_per_issue plan * issues moves

@@ -19,7 +19,7 @@ use Rattle.cf_semantics.specs.claims.Walks.{walk, Everywhere}
 abbrev pub awaits : Passenger → Bool
 awaits p = not p.dead && (not p.done && is_serial (kind p))
 
--- the register gets its value by the answer
+-- the register gets its value from the answer
 abbrev pub gives : Passenger → ℕ → Bool
 gives p r = awaits p && has_reg p.dst r
 
@@ -27,7 +27,7 @@ gives p r = awaits p && has_reg p.dst r
 abbrev pub none_awaited : ℕ → Bool
 none_awaited r = false
 
--- a value is not of a register that an answer above it is to give
+-- a value is not of a register that an answer above it will give
 unfoldable pub Fits : Item → (ℕ → Bool) → Type 0
 Fits (Up i p) w = Unit {0}
 Fits (Down i (Value r v)) w = w r ≡ false
@@ -39,16 +39,16 @@ unfoldable pub past : Item → (ℕ → Bool) → (ℕ → Bool)
 past (Up i p) w = λ r. gives p r || w r
 past (Down i k) w = w
 
--- below all: nor is one cached
+-- below all: nor is such a value cached
 abbrev pub Ends : (ℕ → Bool) → List (Option ℕ) → Type 0
 Ends w cache = (r v : ℕ) → cached cache r ≡ Some v → w r ≡ false
 
--- no value of a register that an answer is still to give is below that call, nor is one cached
+-- no value of a register that an answer will still give is below that call, and none is cached
 pub record IsClear (s : State) : Type 0 where
   pub fit : Everywhere Fits past (column s) none_awaited
   pub ends : Ends (walk past (column s) none_awaited) s.cache
 
--- every register that is waited for with v is waited for with w
+-- every register that is waited for with v is also waited for with w
 pub record Follows (w v : ℕ → Bool) : Type 0 where
   pub fewer : (r : ℕ) → v r ≡ true → w r ≡ true
 
@@ -65,7 +65,7 @@ item_follows : (i : Item) (w v : ℕ → Bool) → Follows w v → Fits i w → 
 unfolding Fits
 item_follows i w v f h = grind (arith, not_awaited)
 
--- and so it goes on one item further down
+-- and the same holds one item further down
 past_follows : (i : Item) (w v : ℕ → Bool) → Follows w v → Fits i w → Follows (past i w) (past i v)
 unfolding past
 past_follows (Up i p) w v f h = record { fewer = λ r e. grind (arith, f.fewer r) }

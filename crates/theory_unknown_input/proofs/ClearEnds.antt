@@ -33,7 +33,7 @@ use Rattle.theory_unknown_input.proofs.Clear.{Ends, Fits, IsClear, awaits, none_
 use Rattle.theory_refinement.proofs.walks.Cache.{cached_cleared, set_cached}
 use Rattle.theory_refinement.proofs.claims.Runs.{empty_column}
 
--- where the processor starts nothing is waited for
+-- at the start of the processor nothing is waited for
 pub clear_opened : (l : Plan) (x : Machine) → IsClear (opened l x)
 unfolding opened
 clear_opened l x = let e = empty_column 1 l.stages in record { fit = rw e tt; ends = rw e (λ r v f. refl) }
@@ -118,7 +118,7 @@ keep_ends w c r v e h q u f = go (set_cached c r q u (Some v) f)
     go (inl a) = rw a.0 e
     go (inr a) = h q u a.1
 
--- where the cache is cleared it has no value
+-- a cache that is cleared has no value
 cleared_ends : (w : ℕ → Bool) (c : List (Option ℕ)) → Ends w (cleared c)
 cleared_ends w c r v e = let z = cached_cleared c r in absurd (cc)
 
@@ -149,7 +149,7 @@ pub fits_up : (i : ℕ) (p : Passenger) (w : ℕ → Bool) → Fits (Up i p) w
 unfolding Fits
 fits_up i p w = tt
 
--- Issue keeps it: below the new instruction is nothing, and its destination is forgotten
+-- Issue keeps it: nothing is below the new instruction, and its destination is forgotten
 pub issue_clear : {rest out : List ℕ} (l : Plan) (s : State) (x : Machine) (g : Guess) → Suits l → bar l s (Issue g) ≡ None → Sound l s rest out x → IsClear s →
     IsClear (moved l s (Issue g))
 issue_clear l s x g acc e h k =

@@ -30,13 +30,13 @@ unfolding lone.past past
 past_unawaited l (Up i p) b w r e f = let z : b ≡ false = past_open l (Up i p) b e in let u = f z in grind arith
 past_unawaited l (Down i k) b w r e f = f (past_open l (Down i k) b e)
 
--- where something may follow, nothing above is waited for
+-- if something may follow, nothing above is waited for
 pub walk_unawaited : (l : Plan) (xs : List Item) (b : Bool) (w : ℕ → Bool) (r : ℕ) → walk (lone.past l) xs b ≡ false → (b ≡ false → w r ≡ false) →
     walk past xs w r ≡ false
 walk_unawaited l [] b w r e f = f e
 walk_unawaited l (x ∷ xs) b w r e f = walk_unawaited l xs (lone.past l x b) (past x w) r e (λ z. past_unawaited l x b w r z f)
 
--- what it owes fits below an instruction that is done, where nothing above waits
+-- what it owes fits below an instruction that is done, if nothing above waits
 fits_sent : (i : ℕ) (p : Passenger) (k : Packet) (w : ℕ → Bool) → p.done ≡ true → ((r : ℕ) → w r ≡ false) → Fits (Down i k) (past (Up i p) w)
 unfolding Fits past
 fits_sent i p (Value r v) w d f = let u = f r in grind arith

@@ -11,8 +11,8 @@ use Rattle.theory_confluence.proofs.drains.Tidy.{IsTidy}
 use Rattle.theory_unknown_input.specs.UnknownInput.{GoesTo, finding}
 use Rattle.theory_unknown_input.proofs.Clear.{IsClear}
 
--- steps that each find some input lead to a machine, as many as have retired; with some input left the moment is sound
--- over that machine, or ended by its next step; and no value is below a call that is still to give it
+-- steps that each find some input, as many as have retired, lead to a machine; with some input left the moment is sound
+-- over that machine, or ended by its next step; and no value is below a call that will still give it
 pub record HoldsAnew (plan : Plan) (start : Machine) (written : List Line) (m : Moment) : Type 0 where
   pub at : Machine
   pub count : m.state.retired ≡ start.hart.retired + gained start m.state

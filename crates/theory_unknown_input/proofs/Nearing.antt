@@ -79,7 +79,7 @@ stands_there : (isa : Isa) (p : Passenger) (s : State) (x : Machine) → sure.Su
 unfolding sure.SureAt
 stands_there isa p s x h = let e = h.0.path in cc
 
--- where a call is to be served, one instruction is sure to retire, or the program is sure to end
+-- if a call is to be served, one instruction is sure to retire, or the program is sure to end
 call_nears : {rest out : List ℕ} (plan : Plan) (s : State) (x : Machine) → bar plan s Serve ≡ None → Sound plan s rest out x →
     (1 ≤ (way (isa_of plan) s x).count) ⊎ ((way (isa_of plan) s x).stop ≡ true)
 call_nears {rest} {out} plan s x free h =

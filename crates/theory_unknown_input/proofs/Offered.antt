@@ -1,5 +1,5 @@
--- What a policy is offered: moves that are allowed, at least one while the program goes on, and no Issue except where
--- the hold rule permits it.
+-- What a policy is offered: moves that are allowed, at least one while the program goes on, and no Issue unless the
+-- hold rule permits it.
 use Rattle.std.proofs.Common.{◌≡◌, ℕ, ◌≤◌, List, length, Option, Some, None, Bool, true, false, not, refl, subst}
 use Rattle.std.specs.Prelude.{slice_get, nat_lt, if◌then◌else◌}
 use Rattle.rv_machine.specs.Machine.{Machine}
@@ -31,7 +31,7 @@ candidate_allowed plan s k mv there = no_bar (bar plan s mv) (kept_passes (λ v.
     no_bar None e = refl
     no_bar (Some b) e = absurd (cc)
 
--- so is one that is left where Issue is held back
+-- so is one that is left if Issue is held back
 held_allowed : (plan : Plan) (s : State) (k : ℕ) (mv : Move) → slice_get (held_back (candidates plan s)) k ≡ Some mv → bar plan s mv ≡ None
 unfolding held_back
 held_allowed plan s k mv there = go (nat_lt 0 (length (other_moves (candidates plan s)))) there
@@ -49,7 +49,7 @@ offered_allowed plan count s k mv there = go (is_held plan count) there
     go true e = held_allowed plan s k mv e
     go false e = candidate_allowed plan s k mv e
 
--- while the candidates are held, an Issue is offered only where no other move is allowed
+-- while the candidates are held, an Issue is offered only if no other move is allowed
 pub offered_held : (plan : Plan) (count : ℕ) (s : State) (k : ℕ) (mv : Move) → HasShape plan s → slice_get (offered plan count s) k ≡ Some mv →
     is_held plan count ≡ true → is_issue mv ≡ true → IsStuck plan s
 unfolding offered
@@ -63,7 +63,7 @@ anew_shape plan start m written h going =
     let s : Sound plan m.state h.rest m.output h.held.machine = subst (HoldsAt plan m.state h.rest m.output h.held.machine) going h.held.stage in
     record { cells = s.size; sidings = s.moored.berths }
 
--- and where no move but Issue is allowed, it is drained and Issue is allowed
+-- and if no move but Issue is allowed, it is drained and Issue is allowed
 pub anew_rested : (plan : Plan) (start : Machine) (m : Moment) (written : List Line) → IsAccepted plan → (h : HoldsAnew plan start written m) →
     m.state.ending ≡ None → IsStuck plan m.state → Rested plan h.held.machine (finding h.rest m)
 anew_rested plan start m written accepted h going stuck = rested plan h.at (finding h.rest m) (accepted_suits plan accepted) h.tidy h.held going stuck

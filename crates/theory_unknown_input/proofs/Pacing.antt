@@ -102,8 +102,8 @@ rested_once plan start m rests s unended drained =
     let b = nearing_retired plan m (suc s.mark) s.nearing unended drained in
     omega (arith, a, b)
 
--- an Issue is counted only where fewer than 2N are: where the candidates are held it is made only where nothing else is
--- allowed, and there nothing is counted
+-- an Issue is counted only if fewer than 2N are: while the candidates are held it is made only if no other move is
+-- allowed, and then nothing is counted
 room : (plan : Plan) (start : Machine) (m : Moment) (mv : Move) (count rests : ℕ) (written : List Line) → Suits plan → HoldsAnew plan start written m →
     m.state.ending ≡ None → (is_held plan count ≡ true → is_issue mv ≡ true → IsStuck plan m.state) → OnItsWay plan start m count rests → is_issue mv ≡ true →
     count < 2 * plan.stages
@@ -264,7 +264,7 @@ few_issues n gone rests slack done fewer low bound =
     let b : (4 * n) * (gone + 1) ≡ (2 * n) * (gone + gone) + (2 * n + 2 * n) = grind arith in
     omega (arith, low, bound, a, b)
 
--- under the hold rule a run from the beginning has at most 4 N K (r + 1) moves, where r instructions have retired,
+-- under the hold rule a run from the beginning has at most 4 N K (r + 1) moves, if r instructions have retired,
 -- whatever each move finds of the input
 pub paced_bounded_anew : (plan : Plan) (x : Machine) (moves : List Move) (m : Moment) (written : List Line) → IsAccepted plan → length x.hart.regs ≡ 32 →
     PacesTo plan 0 (start plan x) moves m written → length moves ≤ 4 * plan.stages * moves_per_issue plan * (gained x m.state + 1)
@@ -280,7 +280,7 @@ paced_bounded_anew plan x moves m written accepted wide paces =
     turn : (a b c : ℕ) → a * (b * c) ≡ b * a * c
     turn a b c = grind arith
 
--- so has one over an input whose remaining bytes are known
+-- the same holds of a run over an input whose remaining bytes are known
 pub paced_run_bounded : (plan : Plan) (x : Machine) (moves : List Move) → IsAccepted plan → length x.hart.regs ≡ 32 → IsPaced plan 0 (start plan x) moves →
     length moves ≤ 4 * plan.stages * moves_per_issue plan * (gained x (run plan (start plan x) moves).state + 1)
 paced_run_bounded plan x moves accepted wide paces = paced_bounded_anew plan x moves (run plan (start plan x) moves)

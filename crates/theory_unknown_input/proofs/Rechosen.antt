@@ -44,7 +44,7 @@ record Alike (awaited : ℕ → Bool) (w v : trail.Walk) : Type 0 where
   trapped : v.trapped ≡ w.trapped
   regs : (r : ℕ) → awaited r ≡ false → slice_index v.machine.hart.regs r ≡ slice_index w.machine.hart.regs r
 
--- a result fits one where it fits the other
+-- a result fits one walk if it fits the other
 packet_alike : (isa : Isa) (i : ℕ) (k : Packet) (awaited : ℕ → Bool) (w v : trail.Walk) → Alike awaited w v → clear.Fits (Down i k) awaited →
     sure.Fits isa (Down i k) w → sure.Fits isa (Down i k) v
 unfolding sure.Fits clear.Fits
@@ -57,7 +57,7 @@ packet_alike isa i (Value r n) awaited w v a c h =
 packet_alike isa i (Turn pc) awaited w v a c h = rw (a.barred, a.goto, a.settled) h
 packet_alike isa i Halt awaited w v a c h = rw (a.barred, a.goto, a.trapped) h
 
--- and is passed alike
+-- and both pass it in the same way
 passed_alike : (isa : Isa) (i : ℕ) (k : Packet) (awaited : ℕ → Bool) (w v : trail.Walk) → Alike awaited w v →
     Alike (clear.past (Down i k) awaited) (trail.past isa (Down i k) w) (trail.past isa (Down i k) v)
 unfolding trail.past clear.past
@@ -83,7 +83,7 @@ walk_alike isa (Up i p ∷ xs) awaited w v q a = absurd q
 walk_alike isa (Down i k ∷ xs) awaited w v q a = walk_alike isa xs (clear.past (Down i k) awaited) (trail.past isa (Down i k) w) (trail.past isa (Down i k) v) q
     (passed_alike isa i k awaited w v a)
 
--- fetch and the cache at the bottom fit one where they fit the other
+-- fetch and the cache at the bottom fit one walk if they fit the other
 ends_alike : (f : Fetch) (awaited : ℕ → Bool) (w v : trail.Walk) → Alike awaited w v → sure.Ends w f → sure.Ends v f
 ends_alike f awaited w v a h = rw (a.barred, a.goto) h
 

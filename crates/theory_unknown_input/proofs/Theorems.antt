@@ -1,4 +1,4 @@
--- The theorems: also over an input whose remaining bytes are unknown, every run does what the sequential machine does.
+-- The theorems: even over an input whose remaining bytes are unknown, every run does what the sequential machine does.
 use Rattle.std.proofs.Common.{◌≡◌, ℕ, ◌+◌, List, [], ◌∷◌, ◌++◌, Some, None, refl, sym, ap, subst, ◌∙◌, arith, length, append_assoc, append-nil, ◌⊎◌, inl, inr}
 use Rattle.rv_inst.specs.declared.isa.Isa.{Isa}
 use Rattle.rv_machine.specs.After.{SameButInput, after}
@@ -42,7 +42,7 @@ rebased plan x m h = record {
   stage = h.stage;
 }
 
--- no steps lead nowhere else
+-- no steps lead to the same machine
 no_step : (isa : Isa) (x y : Machine) (g : ℕ) → g ≡ 0 → after isa x g ≡ Some y → y ≡ x
 unfolding after
 no_step isa x y g e f = let z : Some x ≡ Some y = rw e at f in cc
@@ -63,7 +63,7 @@ refines_held plan x m accepted h level =
     refined plan x [] m h.machine (accepted_suits plan accepted) (omega (arith, level)) (sym (ap (sequence (isa_of plan) x) none ∙ unfold sequence in refl))
     (after_gained plan x m h) m.state.ending refl h.stage
 
--- the lines of a move that is made where nothing has retired since
+-- the lines of a move that is made when nothing has retired since
 one_move : (plan : Plan) (x : Machine) (m : Moment) (mv : Move) → Suits plan → bar plan m.state mv ≡ None → m.state.retired ≡ x.hart.retired →
     HoldsAfter plan x m → (k : HoldsAfter plan x (next plan m mv)) → sequence (isa_of plan) x k.gained ≡ retires plan m.state mv
 unfolding IsRun run lines sequence
@@ -119,7 +119,7 @@ held_anew plan x m rest other free level h clear =
       stage = subst (HoldsAt plan m.state other m.output (over other x)) (sym unended) (rechosen plan m.state x other free sound clear);
     }
 
--- it is claimed with some input left, so that what was left before does not matter
+-- this is claimed with some input left, so that what was left before does not matter
 pub left_open : (plan : Plan) (start : Machine) (written : List Line) (m : Moment) (rest : List ℕ) → HoldsAnew plan start written m →
     HoldsAnew plan start written (finding rest m)
 left_open plan start written m rest h =

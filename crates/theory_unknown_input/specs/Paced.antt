@@ -15,8 +15,8 @@ use Rattle.cf_semantics.specs.claims.Weight.{is_issue}
 use Rattle.theory_unknown_input.specs.UnknownInput.{finding}
 
 -- with this many Issue moves counted before the first of the moves: the moves lead from one moment to another, each
--- allowed where it is made and finding some input, and while the candidates are held no move is an Issue unless no
--- other move is allowed; and these instructions retire
+-- allowed when it is made and finding some input, and while the candidates are held no move is an Issue unless no other
+-- move is allowed; and these instructions retire
 unfoldable pub PacesTo : Plan → ℕ → Moment → List Move → Moment → List Line → Type 0
 PacesTo plan count m [] last written = (last ≡ m) × (written ≡ [])
 PacesTo plan count m (mv ∷ moves) last written =

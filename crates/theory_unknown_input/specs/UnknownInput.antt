@@ -18,7 +18,7 @@ use Rattle.cf_semantics.specs.state.State.{Moment}
 abbrev pub finding : List ℕ → Moment → Moment
 finding rest m = record m { rest = rest }
 
--- the moves lead from one moment to another, each allowed where it is made, and each finding some input; and these
+-- the moves lead from one moment to another, each allowed when it is made, and each finding some input; and these
 -- instructions retire
 unfoldable pub LeadsTo : Plan → Moment → List Move → Moment → List Line → Type 0
 LeadsTo plan m [] last written = (last ≡ m) × (written ≡ [])

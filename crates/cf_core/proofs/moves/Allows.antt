@@ -1,4 +1,4 @@
--- What the rows of the moves at the ends and within the sidings ask, as one truth value each.
+-- What the rows of the moves at the ends and within the sidings test, each as one Boolean.
 use Rattle.std.proofs.Common.{◌≡◌, ℕ, zero, suc, ◌+◌, ◌<◌, ◌≤◌, List, [], ◌∷◌, Option, Some, None, Bool, true, false, refl, sym, length, arith}
 use Rattle.std.specs.Prelude.{◌&&◌, ◌||◌, not, nat_lt, slice_get}
 use Rattle.std.proofs.lemmas.Bool.Decides.{nat_tests}
@@ -72,7 +72,7 @@ pub leave-free : (plan : Plan) (s : State) (p : Passenger) → passenger_at s.ce
 leave-free plan s p e = let h = here-by (cell_at s.cells plan.stages) p e in rw (h.1, h.2)
     (leave_row (is_full (record h.0 { passenger = Some p })) (is_some p.owes) p)
 
--- where no passenger stands
+-- if there is no instruction
 none_leaves : (o : Option Cell) → on o None (λ c. c.passenger) ≡ None → not (is_some (on o (Some NoSuchSite) leave_bar)) ≡ false
 none_leaves None e = refl
 none_leaves (Some c) e = rw e refl

@@ -1,4 +1,4 @@
--- Where the call does not ask the input, or the output, the machine's test for that says so.
+-- If the call does not ask the input, or the output, the machine's test says so.
 use Rattle.std.proofs.Common.{◌≡◌, Bool, true, false, Some, refl}
 use Rattle.std.specs.Prelude.{IsTrue}
 use Rattle.rv_inst.specs.declared.instruction.Instr.TheVariants.{Ecall}

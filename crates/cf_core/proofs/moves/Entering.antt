@@ -1,4 +1,4 @@
--- The first cell of a siding that an operation may enter is there, and empty.
+-- The first cell of a siding that an operation may enter exists and is empty.
 use Rattle.std.proofs.Common.{◌≡◌, ℕ, ◌<◌, List, [], ◌∷◌, Option, Some, None, false, length, arith, refl}
 use Rattle.std.specs.Prelude.{slice_get}
 use Rattle.cf_bind.specs.declared.cell.Cell.{Cell}
@@ -16,7 +16,7 @@ use Rattle.cf_sidings.specs.Sidings.{cells_in}
 use Rattle.cf_core.specs.Processors.{IsProcessor}
 use Rattle.cf_core.proofs.Ported.{siding-cells}
 
--- where the whole row bars nothing, its last test does not
+-- if nothing in the row bars the move, the last test does not
 source_free : (p : Passenger) (rest : Option Bar) → source_bar p rest ≡ None → rest ≡ None
 source_free p rest = by (missing p.src1) (missing p.src2)
   where

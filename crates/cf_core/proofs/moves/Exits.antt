@@ -1,11 +1,11 @@
--- A call that ends the program does so whatever the input has left.
+-- Whether a call ends the program does not depend on what the input has left.
 use Rattle.std.proofs.Common.{◌≡◌, ℕ, List, Option, Some, None, Bool, true, false}
 use Rattle.std.specs.Prelude.{if◌then◌else◌, ◌==◌, not}
 use Rattle.mem_regions.specs.Memory.{Memory}
 use Rattle.mem_regions.specs.Ranges.{range_of, can_write}
 use Rattle.rv_machine.specs.Call.{Called, Value, Exit, CallAnswer, call, read, write, brk, exit, answered_alone, write_from, is_exit, is_output, call_number, first_argument, second_argument, third_argument, no_such_call}
 
--- it is not an exit
+-- the call does not exit
 abbrev IsAnswer : Called → Type 0
 IsAnswer c = (status : ℕ) → c ≡ Exit status → ⊥
 
@@ -30,7 +30,7 @@ unfolding write
 write_answers fd addr len mem rest = either (not (is_output fd)) _ _ (value_answers _) (either (len == 0) _ _ (value_answers _)
     (written_answers (range_of mem addr len) len mem rest))
 
--- of two choices that differ only in answers
+-- two choices that differ only in answers
 alike : (b : Bool) (c c' d d' : Called) (status : ℕ) → (c ≡ Exit status → c' ≡ Exit status) → (d ≡ Exit status → d' ≡ Exit status) →
     (if b then c else d) ≡ Exit status → (if b then c' else d') ≡ Exit status
 alike true c c' d d' status h k e = h e

@@ -27,11 +27,11 @@ use Rattle.cf_core.specs.Ends.{issued_at}
 use Rattle.cf_core.specs.Marks.{row_allows}
 use Rattle.cf_core.specs.Processors.{IsProcessor}
 
--- the passenger with another guess
+-- the instruction with another guess
 with_guess : Passenger → Guess → Passenger
 with_guess p g = record p { guess = g }
 
--- two guesses make passengers that differ only in the guess
+-- two guesses give instructions that differ only in the guess
 ended_as : (o : Option End) (i : Instr) (pc : ℕ) (g h : Guess) → on o (fresh_fence i pc h) (fresh_end (Some i) pc h)
     ≡ with_guess (on o (fresh_fence i pc g) (fresh_end (Some i) pc g)) h
 unfolding with_guess
@@ -93,7 +93,7 @@ issue-free plan s pc g h runs none =
     issue_here plan s g b.0 pc runs b.1 (none_there (cell_at s.cells 1) b.0 b.1 none)
     ∙ rw (alike, same_requests (issued_at plan s pc Next) g, same_guesses (issued_at plan s pc Next) g g) refl
 
--- where the lane has no room for the requests, no guess is allowed, and where it has, those that may be made
+-- if the lane has no room for the requests, no guess is allowed; if it has room, those are allowed that may be made
 pub issue-full : (plan : Plan) (s : State) (pc : ℕ) (g : Guess) (p : Passenger) → IsProcessor plan s → s.fetch ≡ Running pc → passenger_at s.cells 1 ≡ None →
     p ≡ issued_at plan s pc Next →
     plan.lane < length s.lane + length (requests p) → false ≡ row_allows plan s (Issue g)
@@ -110,7 +110,7 @@ issue-fits plan s pc g p h runs none is fits =
     let t : nat_lt plan.lane (length s.lane + length (requests p)) ≡ false = grind (arith, nat_tests) in
     sym (rw t at e ∙ and-true (may_guess g p))
 
--- nothing is issued where an instruction stands in the lowest stage, or where fetch waits
+-- nothing is issued if an instruction is in the lowest stage, or if fetch waits
 taken_row : (plan : Plan) (s : State) (g : Guess) (c : Cell) (f : Fetch) → s.fetch ≡ f → is_some c.passenger ≡ true →
     not (is_some (issue_bar plan s g c)) ≡ false
 taken_row plan s g c (Running pc) e there = rw (e, there) refl

@@ -31,12 +31,12 @@ use Rattle.cf_core.proofs.moves.KeptStages.{change-kept, packet-gone, packet-new
 
 -- What is fetched and requested --
 
--- a choice keeps what both have
+-- what holds of both states holds of a choice between them
 choice : {A : Type 0} (P : A → Type 0) (b : Bool) (x y : A) → P x → P y → P (if b then x else y)
 choice P true x y f g = f
 choice P false x y f g = g
 
--- what a word is read as
+-- what is read from a word
 read_as-set : (isa : Isa) (pc word : ℕ) (o : Option Instr) → decoded_as isa word ≡ o → IsFetched isa (read_as pc word o)
 read_as-set isa pc word None e = tt
 read_as-set isa pc word (Some i) e = decoded-instruction isa word i e
@@ -50,7 +50,7 @@ unfolding fetched
 fetched-set isa mem pc = choice (IsFetched isa) (pc % 4 == 0) (word_read isa pc (fetched_at mem pc)) (Bad (Trap 0 pc pc))
     (word-set isa pc (fetched_at mem pc)) tt
 
--- a source that waits is of a register other than x0
+-- a source that waits is a register other than x0
 unknown-writable : (r : ℕ) (v : Option ℕ) → IsWritable r → IfSome (unknown r v) IsWritable
 unknown-writable r None h = h
 unknown-writable r (Some v) h = tt

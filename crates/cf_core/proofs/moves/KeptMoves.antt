@@ -11,7 +11,7 @@ use Rattle.cf_core.proofs.moves.KeptStages.{climb-kept, execute-kept, fall-kept,
 use Rattle.cf_core.proofs.moves.KeptEnds.{emit-kept, exit-kept, issue-kept, leave-kept}
 use Rattle.cf_core.proofs.moves.KeptSidings.{access-kept, launch-kept, recover-kept, slide-kept}
 
--- the table says nothing of Serve, which asks the outside
+-- the table changes nothing for Serve, which asks the outside
 serve-kept : (plan : Plan) (s : State) → IsProcessor plan s → IsProcessor plan (moved plan s Serve)
 unfolding moved
 serve-kept plan s h = h
@@ -32,7 +32,7 @@ kept_moved plan s Leave h free = leave-kept plan s h
 kept_moved plan s Exit h free = exit-kept plan s h
 kept_moved plan s Serve h free = serve-kept plan s h
 
--- so it is for a processor that was in this state and has made the move
+-- so this holds of a processor that was in this state and has made the move
 pub kept_after : (before now after : Processor) (mv : Move) → after ≡ after_move before mv → before ≡ now → row_bar now.plan now.state mv ≡ None →
     IsProcessor before.plan before.state → IsProcessor after.plan after.state
 kept_after before now after mv made same free h = rw made (kept_moved before.plan before.state mv h (rw same free))

@@ -1,4 +1,4 @@
--- What holds of every processor is kept by Serve, be it made or failed.
+-- What holds of every processor is kept by Serve, whether it is made or fails.
 use Rattle.std.proofs.Common.{◌≡◌, ℕ, List, [], Option, Some, None, Bool, true, false, refl, sym, ap, subst, ◌∙◌, arith}
 use Rattle.std.specs.Prelude.{Result, Ok, Err, if◌then◌else◌, ◌==◌, not}
 use Rattle.mem_regions.specs.Memory.{Memory}
@@ -79,11 +79,11 @@ serve_keeps : (i : Instr) (regs : List ℕ) (mem : Memory) (rest : List ℕ) →
 unfolding serve_of
 serve_keeps i regs mem rest = either mem (synchronizes i) _ _ (bounds-synced mem) (call_keeps regs mem rest)
 
--- a processor whose outside has failed
+-- a processor whose input or output has failed
 failed_kept : (plan : Plan) (s : State) → IsProcessor plan s → IsProcessor plan (record s { failed = true })
 failed_kept plan s h = record { accepted = h.accepted; stages = h.stages; sidings = h.sidings; cells = h.cells; ops = h.ops; lane = h.lane }
 
--- the passenger of the highest stage has its answer, or it will end the program
+-- the instruction in the highest stage has its answer, or it will end the program
 served_kept : (plan : Plan) (m : Moment) (n : ℕ) (c : Cell) (p : Passenger) (o : Called) → IsProcessor plan m.state → IsCellOfSet (isa_of plan) c →
     IsPassenger (isa_of plan) p → Keeps m.state.mem o → IsProcessor plan (served m n c p o).state
 served_kept plan m n c p (Value a) h stage rider keeps =

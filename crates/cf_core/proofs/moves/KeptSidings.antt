@@ -32,18 +32,18 @@ use Rattle.cf_core.proofs.Ported.{last-all}
 
 -- What a siding holds --
 
--- something else stands in its last cell
+-- the last cell has other contents
 last-set : (P : Option Op → Type 0) (ops : List (Option Op)) (q : Option Op) → P q → All P ops → All P (set_last ops q)
 last-set P [] q p h = All-nil P
 last-set P (o ∷ []) q p h = All-cons P q [] p (All-nil P)
 last-set P (o ∷ r ∷ ops) q p h = All-cons P o (set_last (r ∷ ops) q) (All-head P o (r ∷ ops) h) (last-set P (r ∷ ops) q p (All-tail P o (r ∷ ops) h))
 
--- the class of a passenger is that of its instruction
+-- the class of a Passenger is that of its decoded instruction
 kind-instruction : (p : Passenger) → kind p ≡ kind_of (instruction p)
 unfolding kind_of
 kind-instruction p = kind-class p
 
--- the operation of a passenger that does not trap
+-- the operation of an instruction that does not trap
 operation-in : (plan : Plan) (s : State) (k : ℕ) (p : Passenger) → IsPassenger (isa_of plan) p → siding_of plan (kind p) ≡ Some k → launch_trap s p ≡ None →
     IsOp plan (bounds_of s.mem) k (operation p)
 operation-in plan s k p h e free = record {
@@ -52,7 +52,7 @@ operation-in plan s k p h e free = record {
   permitted = λ m. operation-permitted p (bounds_of s.mem) (rw (← kind-instruction p) at m) free;
 }
 
--- an operation is what it was when it is answered
+-- an answer leaves the rest of an operation as it was
 answered-op : (plan : Plan) (s : State) (k : ℕ) (op : Op) (v : ℕ) → IsOp plan (bounds_of s.mem) k op →
     IsOp plan (bounds_of s.mem) k (record op { answer = Some v })
 answered-op plan s k op v h = record { instr = h.instr; siding = h.siding; permitted = h.permitted }

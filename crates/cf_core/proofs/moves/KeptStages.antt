@@ -20,14 +20,14 @@ use Rattle.cf_core.proofs.KeptParts.{cell-kept, kept-where, stage-at}
 
 -- What a stage holds --
 
--- the passenger of a stage, and its packet
+-- the instruction of a stage, and its result
 pub passenger-in : (isa : Isa) (c : Cell) (p : Passenger) → IsCellOfSet isa c → c.passenger ≡ Some p → IsPassenger isa p
 passenger-in isa c p h e = let f = h.passenger in rw e at f
 
 pub packet-in : (isa : Isa) (c : Cell) (k : Packet) → IsCellOfSet isa c → c.packet ≡ Some k → IsPacket k
 packet-in isa c k h e = let f = h.packet in rw e at f
 
--- it has lost the one or the other, or got one that has met nothing
+-- a stage that has lost its instruction or its result, or has got one that has met nothing
 pub passenger-gone : (isa : Isa) (c : Cell) → IsCellOfSet isa c → IsCellOfSet isa (without_passenger c)
 passenger-gone isa c h = record { passenger = tt; packet = h.packet; met = λ f. absurd (cc) }
 
@@ -41,7 +41,7 @@ passenger-new isa c o h p = record { passenger = p; packet = h.packet; met = λ 
 pub packet-new : (isa : Isa) (c : Cell) (o : Option Packet) → IsCellOfSet isa c → IfSome o IsPacket → IsCellOfSet isa (record c { packet = o; met = false })
 packet-new isa c o h k = record { passenger = h.passenger; packet = k; met = λ f. absurd (cc) }
 
--- another passenger stands in the same place
+-- another instruction is in its place
 pub passenger-changed : (isa : Isa) (c : Cell) (p : Passenger) → IsCellOfSet isa c → IsPassenger isa p → IsCellOfSet isa (with_passenger c p)
 passenger-changed isa c p h q = record { passenger = q; packet = h.packet; met = λ f. packet_there c (h.met f) }
   where
@@ -52,7 +52,7 @@ passenger-changed isa c p h q = record { passenger = q; packet = h.packet; met =
 pub both-met : (isa : Isa) (c : Cell) (p : Passenger) (k : Packet) → IsPassenger isa p → IsPacket k → IsCellOfSet isa (cell_met c p k)
 both-met isa c p k h g = record { passenger = meeting-passenger isa p k h; packet = meeting-packet p k g; met = λ f. f }
 
--- what the passenger owed stands beside it
+-- what the instruction owed is beside it
 pub packet-sent : (isa : Isa) (p : Passenger) → IsPassenger isa p → IsTrue (is_some p.owes) → IsCellOfSet isa (sent p)
 packet-sent isa p h e = record { passenger = sent-passenger isa p h; packet = h.owes; met = λ f. e }
 
@@ -78,7 +78,7 @@ fall-kept plan s i h =
     (cell-kept plan s i (without_packet c) h (packet-gone (isa_of plan) c high))
     (packet-new (isa_of plan) d c.packet low high.packet)))
 
--- a change of only the passenger of a stage
+-- a stage in which only the instruction changes
 pub change-kept : (plan : Plan) (s : State) (i : ℕ) (f : Cell → Passenger → State) → IsProcessor plan s →
     ((c : Cell) (p : Passenger) → IsCellOfSet (isa_of plan) c → c.passenger ≡ Some p → IsPassenger (isa_of plan) p → IsProcessor plan (f c p)) →
     IsProcessor plan (on (cell_at s.cells i) s (λ c. on c.passenger s (f c)))
@@ -100,7 +100,7 @@ execute-kept plan s i h =
     cell-kept plan s i (with_passenger c (finish p None)) h (passenger-changed (isa_of plan) c (finish p None) stage
     (finish-passenger (isa_of plan) p None rider)))
 
--- a passenger that owes nothing sends nothing
+-- an instruction that owes nothing sends nothing
 send_owes : (c : Cell) (p : Passenger) → c.passenger ≡ Some p → send_bar c ≡ None → IsTrue (is_some p.owes)
 send_owes c p e f = grind arith
 

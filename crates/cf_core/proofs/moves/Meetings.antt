@@ -22,7 +22,7 @@ seen_in None q met f = absurd (cc)
 seen_in (Some p) None met f = absurd (cc)
 seen_in (Some p) (Some k) met f = refl
 
--- of a stage that is full, and of what the meeting leaves there
+-- the event of a stage that is full, given what the meeting leaves there
 pub meeting-event : (cells : List Cell) (i : ℕ) (before after : Cell) → Some before ≡ cell_at cells i → IsTrue (is_full_at cells i) →
     Some after ≡ cell_at (changed cells i met_in) i → event_seen before after ≡ on (cell_at cells i) event.Plain
     (λ c. on c.passenger event.Plain (λ p. on c.packet event.Plain (meeting_event p)))
@@ -31,7 +31,7 @@ meeting-event cells i before after e f g =
     let a : after ≡ met_in before = same_Some after (met_in before) h in
     rw (← e, a) (seen_in before.passenger before.packet before.met (subst (λ o. IsTrue (on o false is_full)) (sym e) f))
 
--- a stage where nothing bars the meeting is full
+-- a stage is full if nothing bars the meeting there
 pub allowed-full : (cells : List Cell) (i : ℕ) → at cells i meet_bar ≡ None → IsTrue (is_full_at cells i)
 allowed-full cells i e = grind arith
 

@@ -31,7 +31,7 @@ use Rattle.cf_core.specs.declared.fault.Fault.{Fault}
 use Rattle.cf_core.specs.Places.{with_memory}
 use Rattle.cf_core.specs.Stepping.{Makes, CallsAtTop, ServesOrFails, taken, told_of, synchronized}
 
--- the instruction in a stage has its place
+-- the instruction is in this stage
 record Place (s : State) (i : ℕ) (p : Passenger) : Type 0 where
   pub cell : Cell
   pub here : cell_at s.cells i ≡ Some cell
@@ -47,7 +47,7 @@ place s i p f = place_in s i p (cell_at s.cells i) refl f
 pub calls_here : (old : Processor) (p : Passenger) → passenger_at old.state.cells old.plan.stages ≡ Some p → instruction p ≡ Ecall → CallsAtTop old
 calls_here old p e f = subst (λ o. Where o ⊥ (λ q. instruction q ≡ Ecall)) (sym e) f
 
--- the passenger that is asked
+-- the instruction that is answered
 next_asked : (plan : Plan) (m : Moment) (p : Passenger) (h : Place m.state plan.stages p) → next plan m Serve ≡ asked m plan.stages h.cell p
 unfolding next
 next_asked plan m p h = rw (h.here, h.rides) refl
@@ -57,11 +57,11 @@ call_asked : (p : Passenger) (regs : List ℕ) (mem : Memory) (rest : List ℕ) 
 unfolding serve_of
 call_asked p regs mem rest e = rw e refl
 
--- a stage with another passenger
+-- a stage with another instruction
 changed_here : (cells : List Cell) (i : ℕ) (c : Cell) (f : Cell → Cell) → cell_at cells i ≡ Some c → put_cell cells i (f c) ≡ changed cells i f
 changed_here cells i c f e = rw e refl
 
--- a call that is answered, and one that ends the program once the passenger leaves
+-- a call that is answered, and one that ends the program once the instruction leaves
 answer_makes : (old : Processor) (p : Passenger) (mem : Memory) (v : ℕ) (before after : Streams) → passenger_at old.state.cells old.plan.stages ≡ Some p →
     instruction p ≡ Ecall → Returns (call old.state.regs old.state.mem) mem before after v →
     Makes old (in_state old (taken (with_memory old mem) p (answer.Value v))) Serve before after
@@ -101,7 +101,7 @@ exit_makes old p status rest streams e f r = still-makes old (in_state old (take
         ∙ ap (λ (z : List Cell). with_rest (in_state old (record old.state { cells = z })) other)
         (changed_here old.state.cells old.plan.stages h.cell (λ c. with_passenger c (record p { done = true; ending = Some (ending.Exit status) })) h.here)
 
--- FENCE.I asks nothing
+-- FENCE.I asks nothing of the outside
 fence_asked : (p : Passenger) (rd rs1 imm : ℕ) (regs : List ℕ) (mem : Memory) (rest : List ℕ) → instruction p ≡ FenceI rd rs1 imm →
     serve_of (instruction p) regs mem rest ≡ called.Value (record { value = 0; mem = synced mem; rest = rest; output = [] })
 unfolding serve_of
@@ -132,7 +132,7 @@ exit_serves old p status mem before after e f r =
     let h : P old.state.mem before = exit_makes old p status r.rest before e f r.is in
     subst (λ m. P m after) (sym r.memory) (subst (P old.state.mem) (sym r.streams) h)
 
--- what the call came to is what Serve makes of it
+-- the outcome of the call is what Serve makes of it
 call-serves : (old : Processor) (p : Passenger) (mem : Memory) (before after : Streams) (s : Served) → passenger_at old.state.cells old.plan.stages ≡ Some p →
     instruction p ≡ Ecall → Serves old.state.regs old.state.mem mem before after s → ServesOrFails old
     (in_state old (taken (with_memory old mem) p s)) before after (told_of s)
@@ -143,7 +143,7 @@ call-serves old p mem before after answer.ReadFault e f r = record { calls = cal
 call-serves old p mem before after answer.WriteFault e f r =
     record { calls = calls_here old p e f; fails = r.0; processor = ap (λ (z : Memory). in_state old (record old.state { mem = z; failed = true })) r.1 }
 
--- the same, of a processor whose memory the call has left
+-- the same for a processor whose memory is as the call left it
 pub call-takes : (old mid new : Processor) (p : Passenger) (mem : Memory) (before after : Streams) (s : Served) (r : Result (Unit {0}) Fault) →
     passenger_at old.state.cells old.plan.stages ≡ Some p → instruction p ≡ Ecall → Serves old.state.regs old.state.mem mem before after s →
     mid ≡ with_memory old mem → new ≡ in_state mid (taken mid p s) → r ≡ told_of s → ServesOrFails old new before after r

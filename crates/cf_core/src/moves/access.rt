@@ -38,7 +38,7 @@ impl Processor {
         first_of(&[(op.answer.is_some(), Bar::AlreadyDone)])
     }
 
-    /// Whether no test in the row of Access holds, without telling which one does.
+    /// Whether no test in the row of Access holds; it does not say which one does.
     #[inline(always)]
     #[tactic(auto, using(crate::proofs::moves::Allows::access_free, crate::proofs::Ported::ported))]
     fn accesses(&self) -> bool

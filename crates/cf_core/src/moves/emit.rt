@@ -25,7 +25,7 @@ impl Processor {
         first_of(&[(self.top().packet.is_some(), Bar::Occupied)])
     }
 
-    /// Whether no test in the row of Emit holds, without telling which one does.
+    /// Whether no test in the row of Emit holds; it does not say which one does.
     #[inline(always)]
     #[tactic(auto, using(crate::proofs::moves::Allows::emit_free))]
     fn emits(&self) -> bool

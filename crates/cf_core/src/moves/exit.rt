@@ -27,7 +27,7 @@ impl Processor {
         ])
     }
 
-    /// Whether no test in the row of Exit holds, without telling which one does.
+    /// Whether no test in the row of Exit holds; it does not say which one does.
     #[inline(always)]
     #[tactic(auto, using(crate::proofs::moves::Allows::exit_free))]
     fn exits(&self) -> bool
@@ -37,8 +37,8 @@ impl Processor {
         self.stages.packet(1).is_some() && !self.stages.is_full(1)
     }
 
-    /// Takes in a result that has left. A value is cached where the layout has the cache. After a turn fetch goes on at its
-    /// address, and after a halt it waits; both clear the cache.
+    /// Takes in a result that has left. A value is cached if the layout has the cache. After a turn fetch goes on at
+    /// its address, and after a halt it waits; both clear the cache.
     #[inline(always)]
     fn take_in(&mut self, packet: Packet)
         requires { IsPacket packet }

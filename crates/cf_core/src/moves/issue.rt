@@ -1,4 +1,4 @@
-//! Issue: an instruction enters the lowest stage, with a guess of the address from which fetch goes on.
+//! Issue: an instruction enters the lowest stage, with a guess of the address at which fetch goes on.
 
 ghost use Rattle.std.specs.Prelude.{◌≡◌, ◌+◌, ◌≤◌, IfSome, length, None};
 ghost use Rattle.cf_bind.specs.declared.moves.Move.TheVariants as mv;
@@ -22,7 +22,7 @@ use crate::rows::first_of;
 use cf_bind::{Bar, Binding, Fetch, Guess, Passenger};
 use cf_passengers::{RequestedSources, fetched, fresh, goto, isa_of, may_guess, requests};
 
-/// Fetch at the address; where there is none, fetch waits.
+/// Fetch at the address; if there is none, fetch waits.
 #[inline(always)]
 fn fetch_at(place: Option<u32>) -> Fetch
     ensures { result ≡ fetch_there place }
@@ -62,7 +62,7 @@ impl Processor {
         ])
     }
 
-    /// Requests the register, where there is one.
+    /// Requests the register, if there is one.
     #[inline(always)]
     fn request_one(&mut self, register: Option<u8>)
         requires register { IfSome register IsWritable }
@@ -86,7 +86,7 @@ impl Processor {
         self.request_one(asked.second);
     }
 
-    /// Drops the cached value of the destination, where there is one.
+    /// Drops the cached value of the destination, if there is one.
     #[inline(always)]
     fn forget(&mut self, destination: Option<Binding>)
         requires { IfSome destination IsBinding }
@@ -113,8 +113,8 @@ impl Processor {
         }
     }
 
-    /// The guesses that the row of Issue allows at this address, where the lowest stage is free. The instruction is the same
-    /// for all guesses, so it is decoded once.
+    /// The guesses that the row of Issue allows at this address, if the lowest stage is free. The instruction is the
+    /// same for all guesses, so it is decoded once.
     #[inline(always)]
     fn issuable_at(&self, pc: u32) -> Issuable
         requires facts { IsProcessor self.now.plan self.now.state }
@@ -155,7 +155,7 @@ impl Processor {
 }
 
 impl Core {
-    /// The guesses that an instruction can be issued with. Nothing is decoded where the lowest stage is occupied.
+    /// The guesses that an instruction can be issued with. Nothing is decoded if the lowest stage is occupied.
     #[inline(always)]
     #[tactic(auto, using(crate::proofs::moves::Allows::allowing))]
     pub fn issuable(&self) -> Issuable

@@ -40,7 +40,7 @@ impl Processor {
         ])
     }
 
-    /// Whether no test in the row of Leave holds, without telling which one does.
+    /// Whether no test in the row of Leave holds; it does not say which one does.
     #[inline(always)]
     #[tactic(auto, using(crate::proofs::moves::Allows::leave_free))]
     fn leaves(&self) -> bool
@@ -59,7 +59,7 @@ impl Processor {
         }
     }
 
-    /// Writes the value of a destination, where there is one, into the register file.
+    /// Writes the value of a destination, if there is one, into the register file.
     #[inline(always)]
     fn write_back(&mut self, destination: Option<Binding>)
         requires { IfSome destination IsBinding }
@@ -86,7 +86,7 @@ impl Processor {
         }
     }
 
-    /// The instruction of the highest stage leaves. Answers what this shows to the outside.
+    /// The instruction of the highest stage leaves. Returns what this shows to the outside.
     #[inline(never)]
     #[tactic(auto, unfolding(cf_semantics::specs::moves::Moves::moved))]
     pub(crate) fn leave(&mut self) -> Event

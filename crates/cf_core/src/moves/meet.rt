@@ -26,7 +26,7 @@ fn has_died(before: Option<Passenger>, after: Option<Passenger>) -> bool
     }
 }
 
-/// What a meeting shows to the outside, which changed the stage from the first content to the second.
+/// What a meeting that changed the stage from the first content to the second shows to the outside.
 #[inline(always)]
 #[tactic(auto, unfolding(crate::specs::Seen::event_seen))]
 fn seen(before: Cell, after: Cell) -> Event
@@ -87,7 +87,7 @@ impl Processor {
         ])
     }
 
-    /// The instruction and the result of the stage meet. Answers what this shows to the outside.
+    /// The instruction and the result of the stage meet. Returns what this shows to the outside.
     #[inline(always)]
     #[tactic(auto, using(crate::proofs::moves::Meetings::meeting_in_stage), unfolding(cf_semantics::specs::moves::Moves::moved))]
     pub(crate) fn meet(&mut self, i: u32) -> Event

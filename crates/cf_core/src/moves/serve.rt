@@ -50,7 +50,7 @@ impl Processor {
         ])
     }
 
-    /// Whether no test in the row of Serve holds, without telling which one does.
+    /// Whether no test in the row of Serve holds; it does not say which one does.
     #[inline(always)]
     #[tactic(auto, using(crate::proofs::moves::Allows::serve_free))]
     fn serves(&self) -> bool

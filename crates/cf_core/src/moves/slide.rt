@@ -29,7 +29,7 @@ impl Processor {
         ])
     }
 
-    /// Whether no test in the row of Slide holds, without telling which one does.
+    /// Whether no test in the row of Slide holds; it does not say which one does.
     #[inline(always)]
     #[tactic(auto, using(crate::proofs::moves::Allows::slide_free))]
     fn slides(&self, k: u32, c: u32) -> bool

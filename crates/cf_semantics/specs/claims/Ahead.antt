@@ -12,7 +12,7 @@ use Rattle.cf_semantics.specs.state.Layouts.{port}
 use Rattle.cf_semantics.specs.moves.Bars.{last_op}
 use Rattle.cf_semantics.specs.claims.Walks.{walk}
 
--- 1 where the test holds, else 0
+-- 1 if the test holds, otherwise 0
 abbrev pub one : Bool → ℕ
 one true = 1
 one false = 0
@@ -26,7 +26,7 @@ abbrev pub flies : Passenger → Bool
 flies p = is_memory (kind p) && p.launched && not p.recovered
 
 -- it is live and has passed the port: its call was served, or its load or store is recovered, or answered at the end of
--- the siding. Right only in reached states, and where the answer at the siding's end is given only for the highest
+-- the siding. Right only in reached states, and if the answer at the siding's end is given only for the highest
 -- instruction whose load or store is in the siding. There that operation is its own, and what was recovered was
 -- answered
 abbrev pub has_ported : Passenger → Option ℕ → Bool
@@ -36,12 +36,12 @@ has_ported p answer = has_served p || (not p.dead && is_memory (kind p) && (p.re
 abbrev pub answer_there : Plan → State → Option ℕ
 answer_there plan s = on (last_op (siding_at s (port plan))) None (λ o. o.answer)
 
--- 1 where the highest stage holds a call that was served, else 0
+-- 1 if the highest stage holds a call that was served, otherwise 0
 abbrev pub served_count : Plan → State → ℕ
 served_count plan s = on (cell_at s.cells plan.stages) 0 (λ c. on c.passenger 0 (λ p. one (has_served p)))
 
--- so far from the top: the number of live instructions, their number down to the lowest that has passed the port, and
--- the answer at the end of Memory's siding until its own instruction is passed
+-- what is counted so far from the top: the number of live instructions; their number down to the lowest that has passed
+-- the port; and the answer at the end of Memory's siding, until its own instruction is passed
 pub record PortTally : Type 0 where
   pub live : ℕ
   pub ported : ℕ
@@ -60,6 +60,6 @@ counted (Down i k) t = t
 abbrev pub uncounted : Plan → State → PortTally
 uncounted plan s = record { live = 0; ported = 0; answer = answer_there plan s }
 
--- the number of live instructions from the top down to the lowest that has passed the port, 0 where none has passed it
+-- the number of live instructions from the top down to the lowest that has passed the port, or 0 if none has passed it
 abbrev pub ported_count : Plan → State → ℕ
 ported_count plan s = (walk counted (column s) (uncounted plan s)).ported

@@ -1,4 +1,4 @@
--- How a run ends that holds Issue back and cannot be extended: drained, or at the end of the program.
+-- How a maximal run with Issue held back ends: drained, or at the end of the program.
 use Rattle.std.specs.Prelude.{◌≡◌, ℕ, ◌+◌, List, Some, None, Bool, true, false, slice_index}
 use Rattle.rv_machine.specs.Machine.{Machine}
 use Rattle.rv_machine.specs.After.{after}
@@ -26,7 +26,7 @@ pub record Drains (plan : Plan) (m t : Moment) : Type 0 where
   pub is : t ≡ run plan m moves
   pub stuck : IsStuck plan t.state
 
--- the two states are the same, apart from the cache at the bottom
+-- the two states are the same, except for the cached values
 pub record IsSame (s t : State) : Type 0 where
   pub cells : s.cells ≡ t.cells
   pub sidings : s.sidings ≡ t.sidings
@@ -69,13 +69,13 @@ pub record IsEndedAt (plan : Plan) (x : Machine) (m : Moment) : Type 0 where
   pub rest : m.rest ≡ x.rest
   pub output : m.output ≡ x.output
 
--- ended at the machine where the flag is true, else drained at it
+-- ended at the machine if the flag is true, otherwise drained at it
 abbrev pub EndsAt : Bool → Plan → Machine → Moment → Type 0
 EndsAt true plan x t = IsEndedAt plan x t
 EndsAt false plan x t = IsDrainedAt plan x t
 
--- how a run from m ends: the instructions on the path retire; and where the next sure instruction is on the path too,
--- the program ends with its step
+-- how a run from m ends: the instructions on the path retire; and if the next sure instruction is on the path too, the
+-- program ends with its step
 pub record EndsAs (plan : Plan) (start : Machine) (m t : Moment) : Type 0 where
   pub at : Machine
   pub count : after (isa_of plan) start (gained start m.state) ≡ Some at
@@ -83,8 +83,8 @@ pub record EndsAs (plan : Plan) (start : Machine) (m t : Moment) : Type 0 where
   pub more : after (isa_of plan) start (gained start m.state + right (isa_of plan) m.state at) ≡ Some final
   pub ends : EndsAt (way (isa_of plan) m.state at).stop plan final t
 
--- two ends are alike: they agree on ending, count, registers, memory, input and output; and where the program has not
--- ended the two states are the same, apart from the cache at the bottom
+-- two ends are alike: they agree on ending, count, registers, memory, input and output; and if the program has not
+-- ended, the two states are the same, except for the cached values
 pub record EndAlike (t u : Moment) : Type 0 where
   pub ending : t.state.ending ≡ u.state.ending
   pub retired : t.state.retired ≡ u.state.retired

@@ -1,7 +1,7 @@
--- The four laws of single instructions: the step of the sequential machine is what the moves do to an instruction under
--- way, a Passenger. They are for readers. The theory rests on the same content without a Passenger, and on some facts
--- that do not follow from it, all in `theory_refinement/proofs/instructions/Steps.antt`; docs/SOUNDNESS.md lists them.
--- To add an instruction to a class, prove its case of `step_is` there, and of those facts that concern it.
+-- The four laws of single instructions: the step of the sequential machine is what the moves do to an instruction in
+-- flight, a Passenger. They are for readers. The theory rests on the same content without a Passenger, and on some
+-- facts that do not follow from it, all in `theory_refinement/proofs/instructions/Steps.antt`; docs/SOUNDNESS.md lists
+-- them. To add an instruction to a class, prove its case of `step_is` there, and of those facts that concern it.
 use Rattle.std.specs.Prelude.{◌≡◌, ◌≢◌, ℕ, List, ◌++◌, Option, Some, None, Bool, true, ◌||◌, not, slice_index}
 use Rattle.mem_regions.specs.Memory.{Memory}
 use Rattle.mem_regions.specs.Access.{bounds_of}

@@ -40,8 +40,8 @@ as_launched None = None
 as_launched (Some op) = Some (record op { answer = None })
 
 -- the move acts for this instruction, below these items. For Leave and Serve it is the instruction in the highest
--- stage; for Access the highest of those whose load or store is in Memory's siding, and its operation is the one at the
--- siding's end
+-- stage. For Access it is the highest of those whose load or store is in Memory's siding, and its operation is the one
+-- at the siding's end
 abbrev pub ActsFor : Plan → State → Move → List Item → ℕ → Passenger → Type 0
 ActsFor plan s Leave above i p = i ≡ plan.stages
 ActsFor plan s Serve above i p = i ≡ plan.stages

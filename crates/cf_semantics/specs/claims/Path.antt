@@ -1,6 +1,5 @@
--- The path of the program through the column. An instruction is sure where it is live and no barrier is above it:
--- nothing can cancel it any more. The machine after the sure instructions is the sequential machine once it has
--- executed them.
+-- The path of the program through the column. An instruction is sure if it is live and no barrier is above it: nothing
+-- can cancel it any more. The machine after the sure instructions is the sequential machine once it has executed them.
 use Rattle.std.specs.Prelude.{ℕ, List, [], ◌∷◌, Option, Some, None, Bool, true, false, ◌&&◌, ◌||◌, not, ◌==◌}
 use Rattle.rv_inst.specs.declared.isa.Isa.{Isa}
 use Rattle.rv_machine.specs.Machine.{Machine}
@@ -45,8 +44,8 @@ abbrev pub has_reg : Option Binding → ℕ → Bool
 has_reg None r = false
 has_reg (Some b) r = b.reg == r
 
--- a sure instruction below may wait for r, which is the destination of this one: it is not executed yet, or owes the
--- value; or it owes a turn or a halt, or ends the program, and then no instruction below it is sure
+-- a sure instruction below may wait for r, which is the destination of this one: this one is not executed yet or owes
+-- the value; or it owes a turn or a halt, or ends the program, and then no instruction below it is sure
 abbrev pub brings : Passenger → ℕ → Bool
 brings p r = has_reg p.dst r && (not p.done || is_some p.owes || is_some p.ending)
 

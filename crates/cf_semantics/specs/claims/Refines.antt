@@ -31,7 +31,7 @@ pub record Stored (isa : Isa) (start : Machine) (n : ℕ) (s : State) : Type 0 w
 
 -- the retired count is not below that of the start; let n be the difference. The machine makes n steps, and the lines
 -- are those of these steps; the registers are the machine's; an ending is that of its next step. Input and output are
--- those after the served instructions, and memory is that after those that have passed the port. Where the program has
+-- those after the served instructions, and memory is that after those that have passed the port. If the program has
 -- ended, or the processor is empty, neither is ahead
 pub record Refines (plan : Plan) (start : Machine) (written : List Line) (m : Moment) : Type 0 where
   pub at : Machine

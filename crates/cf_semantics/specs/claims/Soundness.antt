@@ -33,7 +33,7 @@ abbrev pub HasValue : Option Binding → List ℕ → Type 0
 HasValue None regs = Unit {0}
 HasValue (Some b) regs = (v : ℕ) → b.value ≡ Some v → v ≡ slice_index regs b.reg
 
--- the value is known, where there is a binding
+-- the value is known, if there is a binding
 abbrev pub IsKnown : Option Binding → Type 0
 IsKnown None = Unit {0}
 IsKnown (Some b) = (v : ℕ) × (b.value ≡ Some v)
@@ -195,17 +195,17 @@ abbrev pub waits : Guess → Bool
 waits Wait = true
 waits _ = false
 
--- a live instruction that nothing may follow: it is not executed, and fetch waits for it, or it ended the program where
+-- a live instruction that nothing may follow: it is not executed, and fetch waits for it, or it ended the program when
 -- it was issued or served
 abbrev pub is_lone : Passenger → Bool
 is_lone p = not p.dead && ((not p.done && (is_serial (kind p) || waits p.guess)) || (is_some p.ending && (is_free (kind p) || is_serial (kind p))))
 
--- (h) No follower: below such an instruction there is not an instruction and no barrier, and fetch waits
+-- (h) No follower: below such an instruction there is no instruction and no barrier, and fetch waits
 abbrev pub NoFollower : State → Type 0
 NoFollower s = (p : Standing s) → is_lone p.who ≡ true → IsHarmless p.below × (s.fetch ≡ Waiting)
 
--- (i) High barriers: below a barrier that is above the stage where memory operations launch there is not an instruction
--- and no other barrier, and fetch waits
+-- (i) High barriers: below a barrier that is above the stage where memory operations launch there is no instruction and
+-- no other barrier, and fetch waits
 pub record HighBarriers (plan : Plan) (s : State) : Type 0 where
   pub lying : (k : Lying s) → turns (Some k.what) ≡ true → memory_launch plan < k.stage → IsHarmless k.below × (s.fetch ≡ Waiting)
   pub owed : (p : Standing s) → turns p.who.owes ≡ true → memory_launch plan < p.stage → IsHarmless p.below × (s.fetch ≡ Waiting)
@@ -233,7 +233,7 @@ pub record PortAgrees (plan : Plan) (m : Moment) (x : Machine) : Type 0 where
   pub input : m.rest ≡ (machine_after (isa_of plan) (served_count plan m.state) (column m.state) (top m.state x)).rest
   pub output : m.output ≡ (machine_after (isa_of plan) (served_count plan m.state) (column m.state) (top m.state x)).output
 
--- (l) Cache: with no barrier, each kept value is that of the machine after all sure instructions
+-- (l) Cache: with no barrier, each cached value is that of the machine after all sure instructions
 abbrev pub CacheAgrees : Isa → State → Machine → Type 0
 CacheAgrees isa s x = When (not (known isa s x (column s)).barred)
     ((r v : ℕ) → cached s.cache r ≡ Some v → v ≡ slice_index (known isa s x (column s)).machine.hart.regs r)

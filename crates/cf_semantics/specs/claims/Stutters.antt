@@ -1,5 +1,5 @@
--- The refinement move by move, as a stuttering simulation: seen from outside, a move is no step of the sequential
--- machine or exactly its next one.
+-- The refinement move by move, as a stuttering simulation: seen from outside, a move either is not a step of the
+-- sequential machine or is exactly its next one.
 use Rattle.std.specs.Prelude.{◌≡◌, ◌⊎◌, ℕ, ◌+◌, ◌≤◌, Some}
 use Rattle.rv_inst.specs.declared.isa.Isa.{Isa}
 use Rattle.rv_machine.specs.Machine.{Machine}

@@ -11,7 +11,7 @@ use Rattle.cf_semantics.specs.moves.Instructions.{kind_of, is_memory}
 use Rattle.cf_semantics.specs.state.State.{State}
 use Rattle.cf_semantics.specs.moves.Bars.{is_full}
 
--- n where the test holds, else 0
+-- n if the test holds, otherwise 0
 abbrev pub counts : Bool → ℕ → ℕ
 counts true n = n
 counts false n = 0
@@ -19,12 +19,12 @@ counts false n = 0
 abbrev pub larger : ℕ → ℕ → ℕ
 larger a b = if nat_lt a b then b else a
 
--- the greatest number of cells of a siding
+-- the maximum number of cells of a siding
 unfoldable pub most_cells : List SidingPlan → ℕ
 most_cells [] = 0
 most_cells (siding ∷ sidings) = larger siding.cells (most_cells sidings)
 
--- an instruction in stage i of n, where d is the greatest number of cells of a siding
+-- an instruction in stage i of n, where d is the maximum number of cells of a siding
 abbrev pub passenger_weight : ℕ → ℕ → ℕ → Passenger → ℕ
 passenger_weight n d i p =
     2 * (n - i) + 1 + counts (not p.dead && not p.done) (2 * n)

@@ -26,16 +26,16 @@ abbrev pub first : Bool → Bar → Option Bar → Option Bar
 first true bar rest = Some bar
 first false bar rest = rest
 
--- the bar of the first test that holds; where no test holds, what the rest says
+-- the bar of the first test that holds; if no test holds, what the rest says
 abbrev pub first_bar_of : List (Bool × Bar) → Option Bar → Option Bar
 first_bar_of [] rest = rest
 first_bar_of (row ∷ rows) rest = first row.0 row.1 (first_bar_of rows rest)
 
--- what bars a move at a stage: there is no stage of this number (NoSuchSite), else as f says
+-- what bars a move at a stage: there is no stage of this number (NoSuchSite), otherwise as f says
 abbrev pub at : List Cell → ℕ → (Cell → Option Bar) → Option Bar
 at cells i f = on (cell_at cells i) (Some NoSuchSite) f
 
--- what bars a move of the instruction in a stage: there is no instruction (NoPassenger), else as f says
+-- what bars a move of the instruction in a stage: there is no instruction (NoPassenger), otherwise as f says
 abbrev pub of_passenger : Cell → (Passenger → Option Bar) → Option Bar
 of_passenger c f = on c.passenger (Some NoPassenger) f
 
@@ -65,7 +65,7 @@ abbrev pub running : Fetch → Option ℕ
 running (Running pc) = Some pc
 running Waiting = None
 
--- the first source has no value, or else the second (SourceMissing, with its register); else as the rest says
+-- the first source has no value, or otherwise the second (SourceMissing, with its register); otherwise as the rest says
 abbrev pub source_bar : Passenger → Option Bar → Option Bar
 source_bar p rest = on (missing p.src1) (on (missing p.src2) rest (λ r. Some (SourceMissing r))) (λ r. Some (SourceMissing r))
 
@@ -216,7 +216,7 @@ row_bar plan s Leave = at s.cells plan.stages leave_bar
 row_bar plan s Exit = at s.cells 1 exit_bar
 row_bar plan s Serve = at s.cells plan.stages serve_bar
 
--- the first bar of a move, or none where it is allowed; nothing is allowed once the program has ended, or the input or
--- the output has failed
+-- the first bar of a move, or none if it is allowed; nothing is allowed once the program has ended, or the input or the
+-- output has failed
 unfoldable pub bar : Plan → State → Move → Option Bar
 bar plan s m = first_bar_of ((is_some s.ending, Halted) ∷ (s.failed, Failed) ∷ []) (row_bar plan s m)

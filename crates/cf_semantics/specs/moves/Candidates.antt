@@ -35,7 +35,7 @@ all_moves plan =
 unfoldable pub candidates : Plan → State → List Move
 candidates plan s = filter (λ mv. not (is_some (bar plan s mv))) (all_moves plan)
 
--- those that are not Issue
+-- those that are not an Issue
 abbrev pub other_moves : List Move → List Move
 other_moves moves = filter (λ mv. not (is_issue mv)) moves
 

@@ -17,12 +17,12 @@ use Rattle.cf_semantics.specs.state.State.{State, cell_at}
 use Rattle.cf_semantics.specs.state.Passengers.{instruction, value_in}
 use Rattle.cf_semantics.specs.runs.Lines.{Line}
 
--- the register of a binding, 0 where there is no binding
+-- the register of a binding, or 0 if there is no binding
 abbrev pub register_in : Option Binding → ℕ
 register_in None = 0
 register_in (Some b) = b.reg
 
--- the reported retirement is the line: its word stands for the instruction
+-- the reported retirement is the line: its word encodes the instruction
 pub record Shows (line : Line) (shown : Retired) : Type 0 where
   pub pc : shown.pc ≡ line.pc
   pub word : Encodes shown.word line.what
@@ -36,7 +36,7 @@ meeting_event p k =
     if not (is_some (meeting p k).packet) then event.Killed else
     if not p.dead && (meeting p k).passenger.dead then event.Died else event.Plain
 
--- a live instruction that leaves retires or ends the program; a dead one is not seen
+-- a live instruction that leaves retires or ends the program; a dead instruction is not seen
 abbrev pub IsLeaving : Passenger → Event → Type 0
 IsLeaving p (event.Retired shown) = (p.dead ≡ false) × (p.ending ≡ None) × Shows (record { pc = p.pc; what = instruction p; wrote = p.dst }) shown
 IsLeaving p (event.Ended e) = (p.dead ≡ false) × (p.ending ≡ Some e)

@@ -61,12 +61,12 @@ src2_of i = register (sources_of i).1
 unfoldable pub dst_of : Instr → Option ℕ
 dst_of i = register (dest_of i)
 
--- the value of a source; where there is no source, 0
+-- the value of a source; 0 if there is no source
 abbrev pub value_read : List ℕ → Option ℕ → ℕ
 value_read regs None = 0
 value_read regs (Some r) = slice_index regs r
 
--- the registers once a destination is written, where there is one
+-- the registers once a destination is written, if there is one
 abbrev pub value_written : List ℕ → Option ℕ → ℕ → List ℕ
 value_written regs None v = regs
 value_written regs (Some r) v = slice_set regs r v
@@ -91,17 +91,17 @@ pub data Fetched : Type 0 where
   Got : Instr → Fetched
   Bad : End → Fetched
 
--- what a fetched word is: a trap of cause 2 where it is not an instruction
+-- what a fetched word is: a trap of cause 2 if it is not an instruction
 abbrev pub read_as : ℕ → ℕ → Option Instr → Fetched
 read_as pc word None = Bad (Trap 2 pc word)
 read_as pc word (Some i) = Got i
 
--- what was fetched: a trap of cause 1 where fetching failed
+-- what was fetched: a trap of cause 1 if fetching failed
 abbrev pub word_read : Isa → ℕ → Result ℕ MemErr → Fetched
 word_read isa pc (Ok word) = read_as pc word (decoded_as isa word)
 word_read isa pc (Err e) = Bad (Trap 1 pc pc)
 
--- what the code of memory has at an address: a trap of cause 0 where 4 does not divide the address
+-- what the code of memory has at an address: a trap of cause 0 if 4 does not divide the address
 unfoldable pub fetched : Isa → Memory → ℕ → Fetched
 fetched isa mem pc = if pc % 4 == 0 then word_read isa pc (fetch_at mem pc) else Bad (Trap 0 pc pc)
 
@@ -172,7 +172,7 @@ step_at isa x pc = stepped (step isa (at_pc x pc))
 abbrev pub step_here : Isa → Machine → StepResult
 step_here isa x = step_at isa x x.hart.pc
 
--- the machine after a step, or as it was where the step ends the program
+-- the machine after a step, or as it was if the step ends the program
 abbrev pub after_step : StepResult → Machine → Machine
 after_step (Goes n) m = n
 after_step (Stops e) m = m

@@ -1,5 +1,5 @@
 -- The table of moves, second half: what each allowed move does. What a row does not name is unchanged. Nothing is
--- claimed of a barred move: where a cell, an instruction or a result is missing, the state is unchanged.
+-- claimed of a barred move: if a cell, an instruction or a result is missing, the state is unchanged.
 use Rattle.std.specs.Prelude.{ℕ, ◌+◌, ◌-◌, List, [], ◌∷◌, ◌++◌, Option, Some, None, Bool, true, false, if◌then◌else◌, slice_get, slice_index, slice_set}
 use Rattle.mem_regions.specs.Access.{bounds_of}
 use Rattle.rv_machine.specs.Call.{Called}
@@ -26,7 +26,7 @@ use Rattle.cf_semantics.specs.state.Passengers.{instruction, kind, value_in, reg
 use Rattle.cf_semantics.specs.state.Layouts.{isa_of, port}
 use Rattle.cf_semantics.specs.moves.Bars.{last_op, running}
 
--- fetch runs at the address, or waits where none is given
+-- fetch runs at the address, or waits if none is given
 abbrev pub fetch_from : Option ℕ → Fetch
 fetch_from (Some pc) = Running pc
 fetch_from None = Waiting
@@ -37,11 +37,11 @@ set_last [] q = []
 set_last (o ∷ []) q = q ∷ []
 set_last (o ∷ p ∷ ops) q = o ∷ set_last (p ∷ ops) q
 
--- f applied to stage i; where there is no such stage, the state is unchanged
+-- f applied to stage i; if there is no such stage, the state is unchanged
 abbrev pub on_cell : State → ℕ → (Cell → State) → State
 on_cell s i f = on (cell_at s.cells i) s f
 
--- f applied to stage i and its instruction; where either is missing, the state is unchanged
+-- f applied to stage i and its instruction; if either is missing, the state is unchanged
 abbrev pub on_passenger : State → ℕ → (Cell → Passenger → State) → State
 on_passenger s i f = on_cell s i (λ c. on c.passenger s (f c))
 
@@ -84,11 +84,11 @@ fallen s i c d = with_cell (with_cell s i (without_packet c)) (i - 1) (record d 
 abbrev pub cell_met : Cell → Passenger → Packet → Cell
 cell_met c p k = let m = meeting p k in record { passenger = Some m.passenger; packet = m.packet; met = is_some m.packet }
 
--- Send: what the instruction owes is beside it, met; the move is allowed only where no result is there
+-- Send: what the instruction owes is beside it, met; the move is allowed only if no result is there
 abbrev pub sent : Passenger → Cell
 sent p = record { passenger = Some (record p { owes = None }); packet = p.owes; met = true }
 
--- the operation of an instruction; Launch is allowed only where both its sources have values
+-- the operation of an instruction; Launch is allowed only if both its sources have values
 abbrev pub operation : Passenger → Op
 operation p = record { pc = p.pc; instr = instruction p; a = value_in p.src1; b = value_in p.src2; answer = None }
 
@@ -119,7 +119,7 @@ accessed plan s op =
 abbrev pub back_in : Passenger → Option ℕ → Passenger
 back_in p answer = if p.dead then record p { recovered = true } else finish (record p { recovered = true }) answer
 
--- Recover: the operation at the end of the siding is taken out. Right only in reached states, where it is the
+-- Recover: the operation at the end of the siding is taken out. Right only in reached states, in which it is the
 -- instruction's own (`exit_op_bar`)
 abbrev pub recovered : Plan → State → ℕ → Cell → Passenger → State
 recovered plan s i c p = on (siding_of plan (kind p)) s (λ k. on (last_op (siding_at s k)) s (λ op.
@@ -135,7 +135,7 @@ written regs (Some b) = slice_set regs b.reg (value_in (Some b))
 abbrev pub left_live : State → Passenger → State
 left_live s p = on p.ending (record s { regs = written s.regs p.dst; retired = s.retired + 1 }) (λ e. record s { ending = Some e })
 
--- Leave: the instruction of the highest stage is gone; a dead one leaves no trace
+-- Leave: the instruction of the highest stage is gone; a dead instruction leaves no trace
 abbrev pub left : State → ℕ → Cell → Passenger → State
 left s n c p =
     let t = with_cell s n (without_passenger c) in
@@ -147,8 +147,8 @@ turned f (Value r v) = f
 turned f (Turn pc) = Running pc
 turned f Halt = Waiting
 
--- the cache at the bottom when a result leaves there: it holds a value, where the layout has the cache; it is empty
--- once fetch is turned or halted
+-- the cache at the bottom when a result leaves there: it holds a value, if the layout has the cache; it is empty once
+-- fetch is turned or halted
 abbrev pub keeps : Bool → List (Option ℕ) → Packet → List (Option ℕ)
 keeps true cache (Value r v) = slice_set cache r (Some v)
 keeps false cache (Value r v) = cache

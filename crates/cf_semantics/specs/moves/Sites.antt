@@ -139,7 +139,7 @@ reads plan s mv x = uses plan s mv x || only_reads mv x
 abbrev pub ends_there : Plan → State → Bool
 ends_there plan s = on (cell_at s.cells plan.stages) false (λ c. on c.passenger false (λ p. not p.dead && is_some p.ending))
 
--- the further sites that a move writes: Leave ends the program where the instruction does; a Serve may fail
+-- the further sites that a move writes: Leave ends the program if the instruction does; a Serve may fail
 abbrev pub only_writes : Plan → State → Move → Site → Bool
 only_writes plan s Leave x = ends_there plan s && among x (Ended ∷ [])
 only_writes plan s Serve x = among x (Failure ∷ [])

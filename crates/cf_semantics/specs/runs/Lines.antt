@@ -37,7 +37,7 @@ named r v = on (register r) None (λ q. Some (record { reg = q; value = Some v }
 abbrev pub line_read : Isa → Retired → Line
 line_read isa own = row own.pc (on (decoded_as isa own.word) Ebreak (λ i. i)) (named own.reg own.value)
 
--- the line that an outcome gives, where an instruction retires
+-- the line that an outcome gives, if an instruction retires
 abbrev pub lines_in : Isa → outcome.Outcome Machine → List Line
 lines_in isa (outcome.Next m own) = line_read isa own ∷ []
 lines_in isa (outcome.Trap cause pc detail) = []
@@ -56,7 +56,7 @@ sequence isa m (suc n) = sequence isa m n ++ on (after isa m n) [] (lines_at isa
 abbrev pub line_of : Passenger → Line
 line_of p = row p.pc (instruction p) p.dst
 
--- it retires where it is live and does not end the program
+-- it retires if it is live and does not end the program
 abbrev pub retired_by : Passenger → List Line
 retired_by p = if p.dead then [] else on p.ending (line_of p ∷ []) (λ e. [])
 

@@ -12,8 +12,8 @@ use Rattle.cf_semantics.specs.claims.Weight.{is_issue}
 use Rattle.cf_semantics.specs.state.Drained.{IsStuck, is_drained}
 use Rattle.cf_semantics.specs.moves.Holding.{is_held, paced}
 
--- with this many Issue moves counted before the first of the moves: each move is allowed where it is made, and while
--- the candidates are held it is not an Issue unless no other move is allowed
+-- with this many Issue moves counted before the first of the moves: each move is allowed when it is made, and while the
+-- candidates are held it is not an Issue unless no other move is allowed
 unfoldable pub IsPaced : Plan → ℕ → Moment → List Move → Type 0
 IsPaced plan count m [] = Unit {0}
 IsPaced plan count m (mv ∷ moves) =

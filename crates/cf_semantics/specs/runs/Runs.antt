@@ -1,4 +1,4 @@
--- Runs: lists of moves, each allowed in the moment where it is made.
+-- Runs: lists of moves, each allowed at the moment at which it is made.
 use Rattle.std.specs.Prelude.{◌≡◌, List, [], ◌∷◌, replicate, map, Option, None, false}
 use Rattle.rv_machine.specs.Machine.{Machine}
 use Rattle.cf_layout.specs.Layout.{SidingPlan, Plan}
@@ -37,7 +37,7 @@ opened plan m = record {
 abbrev pub start : Plan → Machine → Moment
 start plan m = record { state = opened plan m; rest = m.rest; output = m.output }
 
--- each move is allowed where it is made
+-- each move is allowed when it is made
 unfoldable pub IsRun : Plan → Moment → List Move → Type 0
 IsRun plan m [] = Unit {0}
 IsRun plan m (mv ∷ moves) = (bar plan m.state mv ≡ None) × IsRun plan (next plan m mv) moves

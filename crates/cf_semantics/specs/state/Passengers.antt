@@ -35,7 +35,7 @@ abbrev pub missing : Option Binding → Option ℕ
 missing None = None
 missing (Some b) = unknown b.reg b.value
 
--- the value of a source; where there is no source or no value, 0
+-- the value of a source; 0 if there is no source or no value
 abbrev pub value_in : Option Binding → ℕ
 value_in None = 0
 value_in (Some b) = on b.value 0 (λ v. v)
@@ -72,9 +72,9 @@ value_packet v (Some b) = Some (Value b.reg v)
 abbrev pub trapped : Passenger → End → Passenger
 trapped p e = record p { done = true; ending = Some e; owes = Some Halt }
 
--- it is executed, with the value v, and the program goes on at n: it owes a turn where the guess was another address,
--- else its value. Right only in reached states: there an instruction that is not done owes nothing, and its destination
--- has no value, so that nothing is lost
+-- it is executed, with the value v, and the program goes on at n: it owes a turn if the guess was another address, and
+-- otherwise its value. Right only in reached states: there an instruction that is not done owes nothing, and its
+-- destination has no value, so that nothing is lost
 abbrev pub finished : Passenger → ℕ → ℕ → Passenger
 finished p n v = record p {
   done = true;
@@ -83,7 +83,7 @@ finished p n v = record p {
   owes = if is_place (guessed p.guess (instruction p) p.pc) n then value_packet v p.dst else Some (Turn n);
 }
 
--- it finishes, with what its unit computes or with the answer of memory where there is one. A source without a value
+-- it finishes, with what its unit computes, or with the answer of memory if there is one. A source without a value
 -- counts as 0 here; Execute and Launch wait until every source has one
 unfoldable pub finish : Passenger → Option ℕ → Passenger
 finish p answer =
@@ -117,7 +117,7 @@ abbrev pub destination : Option ℕ → Option Binding
 destination None = None
 destination (Some r) = Some (record { reg = r; value = None })
 
--- a new instruction that ends the program where it is issued
+-- a new instruction that ends the program when it is issued
 abbrev pub fresh_end : Option Instr → ℕ → Guess → End → Passenger
 fresh_end what pc g e = record {
   pc = pc;
@@ -194,7 +194,7 @@ goto_done (Some e) n = None
 abbrev pub goto : Passenger → Option ℕ
 goto p = if p.done then goto_done p.ending p.next else goto_undone (kind p) p
 
--- the registers to request, each once, that of the first source first
+-- the registers to request, each once, beginning with that of the first source
 abbrev pub both : Option ℕ → Option ℕ → List ℕ
 both None None = []
 both (Some r) None = r ∷ []

@@ -35,7 +35,7 @@ IsHarmless [] = Unit {0}
 IsHarmless (Up i p ∷ xs) = ⊥
 IsHarmless (Down i k ∷ xs) = (turns (Some k) ≡ false) × IsHarmless xs
 
--- the machine after the first n sure instructions of the items, or after all of them where there are fewer
+-- the machine after the first n sure instructions of the items, or after all of them if there are fewer
 abbrev pub machine_after : Isa → ℕ → List Item → Walk → Machine
 machine_after isa zero xs w = w.machine
 machine_after isa (suc n) [] w = w.machine

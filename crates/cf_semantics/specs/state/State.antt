@@ -8,10 +8,10 @@ use Rattle.cf_bind.specs.declared.packet.Fetch.{Fetch}
 use Rattle.cf_bind.specs.declared.passenger.End.{End}
 use Rattle.cf_semantics.specs.state.Options.{on}
 
--- the stages from the lowest up; the cells of each siding, first the one at which operations enter; the requested
--- registers, first the one to be answered next; what fetch does; for each register the value that the cache at the
--- bottom holds, if any; the register file; the memory; how many instructions have retired; how the program ended; and
--- whether the input or the output has failed
+-- the stages from the lowest up; the cells of each siding, beginning with the one at which operations enter; the
+-- requested registers, beginning with the one to be answered next; what fetch does; for each register the value that
+-- the cache at the bottom holds, if any; the register file; the memory; how many instructions have retired; how the
+-- program ended; and whether the input or the output has failed
 pub record State : Type 0 where
   pub cells : List Cell
   pub sidings : List (List (Option Op))

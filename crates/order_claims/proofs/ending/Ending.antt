@@ -1,4 +1,4 @@
--- Lists of moves end: each move lowers the weight of the state, with what the Issue moves that are left may add to it.
+-- Lists of moves end: each move lowers the weight of the state plus what the remaining Issue moves may add to it.
 use Rattle.std.proofs.Common.{◌≡◌, ℕ, zero, suc, ◌+◌, ◌-◌, ◌<◌, ◌≤◌, List, [], ◌∷◌, Option, Some, None, Bool, true, false, cond, get_or, refl, ap, subst, arith, length, Contains}
 use Rattle.std.specs.Prelude.{nat_lt, not, ◌&&◌, ◌||◌}
 use Rattle.std.proofs.lemmas.Bool.Decides.{nat_tests}
@@ -41,7 +41,7 @@ leads bars may_issue (x ∷ moves) mv there = by (leads bars may_issue moves mv)
     by rest None is false may there = rest there
     by rest None is true may (k, within, same) = here k within same (record { allowed = is; issue = may }) rest
 
--- what a move leaves of the Issue moves
+-- the Issue moves that remain after a move
 one_less : (n d issued most : ℕ) (b : Bool) → (nat_lt issued most || not b) ≡ true →
     counts b (issue_weight n d) + issues_weight n d (most - (issued + counts b 1)) ≡ issues_weight n d (most - issued)
 one_less n d issued most false h = let same : issued + 0 ≡ issued = omega arith in

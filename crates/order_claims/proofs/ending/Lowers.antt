@@ -20,12 +20,12 @@ most : (b : Bool) (m : ℕ) → counts b m ≤ m
 most true m = omega arith
 most false m = omega arith
 
--- an instruction that rises one stage
+-- an instruction that climbs one stage
 rider_up : (n d i : ℕ) (p : Passenger) → suc i ≤ n → rider_weight n d (suc i) p + 2 ≡ rider_weight n d i p
 unfolding rider_weight
 rider_up n d i p h = omega arith
 
--- one that puts what it owes beside it
+-- one that puts the result that it owes beside it
 rider_paid : (n d i : ℕ) (p : Passenger) (k : Packet) → p.owes ≡ Some k → rider_weight n d i (record p { owes = None }) + 2 * n ≡ rider_weight n d i p
 unfolding rider_weight
 rider_paid n d i p k e = rw e (omega arith)
@@ -132,7 +132,8 @@ pub issue_stage : (n d : ℕ) (c : Cell) (p : Passenger) → 0 < n → c.passeng
 unfolding stage_weight
 issue_stage n d c p l e = let few = rider_most n d p l in grind arith
 
--- the state after a move: as many stages, sidings as short, and a weight that is lower, but for so much
+-- the state after a move: as many stages, sidings no longer than before, and a weight that is lower, apart from this
+-- much
 pub record Lowers (n d : ℕ) (s t : State) (more : ℕ) : Type 0 where
   pub cells : length t.cells ≡ length s.cells
   pub sidings : AreShort d t.sidings

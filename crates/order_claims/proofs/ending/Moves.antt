@@ -1,4 +1,4 @@
--- Each move that the table without a rule allows lowers the weight, but for Issue.
+-- Each move that the table without a rule allows lowers the weight, except Issue.
 use Rattle.std.proofs.Common.{◌≡◌, ℕ, suc, ◌+◌, ◌-◌, ◌*◌, ◌<◌, ◌≤◌, List, [], ◌∷◌, Option, Some, None, Bool, true, false, cond, refl, sym, ap, subst, ◌∙◌, arith, length}
 use Rattle.std.specs.Prelude.{slice_get, slice_set, slice_index, not, ◌==◌, ◌||◌}
 use Rattle.std.proofs.lemmas.List.{length-set}
@@ -34,7 +34,7 @@ use Rattle.order_claims.proofs.ending.OrderWeight.{stage_weight, flight_weight, 
 use Rattle.order_claims.proofs.ending.Weights.{asked_weight, entering, lane_behind, last_put, last_size, put_size, put_stage, siding_short, sliding, stage_number}
 use Rattle.order_claims.proofs.ending.Lowers.{Lowers, alike_lowers, both_lower, climb_stages, emit_stage, exit_stage, fall_stages, issue_stage, leave_stage, meet_stage, rider_back, rider_done, rider_out, rider_put, send_stage, siding_lowers, stage_lowers, two_lower}
 
--- what an allowed move finds
+-- what an allowed move needs is there
 found : {A : Type 0} (o : Option A) (b : Bar) (f : A → Option Bar) → on o (Some b) f ≡ None → (a : A) × (o ≡ Some a) × (f a ≡ None)
 found None b f e = absurd (cc)
 found (Some a) b f e = (a, refl, e)
@@ -59,7 +59,7 @@ stands : (a : Bool) → not a ≡ false → a ≡ true
 stands true e = refl
 stands false e = absurd (cc)
 
--- an instruction that is done, and what it launched is as before
+-- an instruction that is done, and whose launched operation is as before
 record AreFinished (p q : Passenger) : Type 0 where
   pub done : q.done ≡ true
   pub launched : q.launched ≡ p.launched
@@ -164,7 +164,7 @@ module _ (away : Option Rule) (plan : Plan) (n d : ℕ) (s : State) (few : lengt
       (chosen (λ t. Lowers n d s t 0) c.0.packet s (λ k. with_cell s i (cell_met_without away c.0 p.0 k)) k.0 k.1
       (stage_lowers n d s i c.0 (cell_met_without away c.0 p.0 k.0) short c.1 (meet_stage n d i away c.0 p.0 k.0 p.1 k.1 apart.0))))
 
-  -- an instruction that is another one afterwards
+  -- an instruction that is a different one afterwards
   changed : (i : ℕ) (c : Cell) (p q : Passenger) → cell_at s.cells i ≡ Some c → c.passenger ≡ Some p → p.done ≡ false → q.done ≡ true →
       q.launched ≡ p.launched → q.recovered ≡ p.recovered → Lowers n d s (with_cell s i (with_passenger c q)) 0
   changed i c p q at_c sits undone done launched recovered =

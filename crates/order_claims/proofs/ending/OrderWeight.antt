@@ -1,5 +1,5 @@
--- The weight of a state in the table without a rule: whichever rule is taken away, each move but Issue lowers it. A list of
--- moves has at most as many moves as its Issue moves allow for.
+-- The weight of a state in the table without a rule: whichever rule is taken away, each move except Issue lowers it. So
+-- the number of moves in a list is bounded in terms of its Issue moves.
 use Rattle.std.specs.Prelude.{ℕ, zero, suc, ◌+◌, ◌-◌, ◌*◌, ◌≤◌, List, [], ◌∷◌, Option, Some, None, not, length}
 use Rattle.cf_bind.specs.declared.cell.Cell.{Cell}
 use Rattle.cf_bind.specs.declared.cell.Op.{Op}
@@ -24,7 +24,7 @@ abbrev pub stages_weight : ℕ → ℕ → ℕ → List Cell → ℕ
 stages_weight n d i [] = 0
 stages_weight n d i (c ∷ cells) = stage_weight n d i c + stages_weight n d (suc i) cells
 
--- an operation with so many cells after its own
+-- an operation with this many cells after its own
 unfoldable pub flight_weight : ℕ → Option Op → ℕ
 flight_weight after None = 0
 flight_weight after (Some op) = after + 1 + counts (not (is_some op.answer)) 1
@@ -56,7 +56,7 @@ AreShort d (ops ∷ sidings) = (length ops ≤ d) × AreShort d sidings
 abbrev pub issue_weight : ℕ → ℕ → ℕ
 issue_weight n d = 14 * n + d + 10
 
--- what so many Issue moves may add
+-- the amount that this many Issue moves may add
 abbrev pub issues_weight : ℕ → ℕ → ℕ → ℕ
 issues_weight n d zero = 0
 issues_weight n d (suc issues) = issue_weight n d + issues_weight n d issues

@@ -89,7 +89,7 @@ entering (o ∷ ops) op = by (not (is_some op.answer))
     by true = omega arith
     by false = omega arith
 
--- one that goes one cell on
+-- one that moves one cell further
 pub sliding : (ops : List (Option Op)) (c : ℕ) (op : Op) → slice_get ops c ≡ Some (Some op) → slice_get ops (suc c) ≡ Some None →
     flights_weight (slice_set (slice_set ops c None) (suc c) (Some op)) < flights_weight ops
 unfolding flight_weight

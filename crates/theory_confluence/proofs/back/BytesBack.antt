@@ -1,4 +1,4 @@
--- What a store overwrites, written back: memory is as before, also where the store is misaligned and writes nothing.
+-- What a store overwrites, written back: memory is as before, even if the store is misaligned and writes nothing.
 use Rattle.std.proofs.Common.{◌≡◌, ℕ, ◌+◌, ◌-◌, ◌≤◌, List, [], ◌∷◌, ◌++◌, Bool, true, false, Option, Some, None, IsTrue, length, take, drop, find, refl, ap, sym, ◌∙◌, arith, append_assoc, length-drop}
 use Rattle.std.specs.Prelude.{if◌then◌else◌}
 use Rattle.std.specs.Option.{option_map}
@@ -23,7 +23,7 @@ within addr len a e = let lies : IsTrue (lies_in addr len a) = writes-lies addr 
 same_between : (xs ys zs bytes : List ℕ) (at : ℕ) → (xs ++ ys) ++ zs ≡ bytes → length xs ≡ at → overwritten bytes at ys ≡ bytes
 same_between xs ys zs bytes at e f = rw (← e, ← f) (overwritten-between xs ys zs ys refl)
 
--- bytes that are written over themselves stay
+-- bytes that are overwritten with themselves are unchanged
 overwritten_same : (bytes : List ℕ) (at len : ℕ) → at + len ≤ length bytes → overwritten bytes at (take len (drop at bytes)) ≡ bytes
 overwritten_same bytes at len b =
     let whole : (take at bytes ++ take len (drop at bytes)) ++ drop len (drop at bytes) ≡ bytes = rw (append_assoc, take-append-drop, take-append-drop) refl in
@@ -57,7 +57,7 @@ found addr len old (x ∷ xs) e = by (writes_in addr len x) refl e (found addr l
         }
     by false f e later = let h = later e in record { long = h.long; same = rw f (ap (λ (rest : List Area). x ∷ rest) h.same) }
 
--- where no region has them, a write changes nothing
+-- if no region has them, a write changes nothing
 nowhere : (addr len : ℕ) (w : List ℕ) (areas : List Area) → option_map (bytes_in addr len) (find (writes_in addr len) areas) ≡ None →
     first_changed (writes_in addr len) (area_with addr w) areas ≡ areas
 nowhere addr len w [] e = refl

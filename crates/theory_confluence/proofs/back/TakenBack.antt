@@ -39,7 +39,7 @@ whole : (l : Plan) (s t : State) (mv : Move) → Back (kept l s mv) s t → rest
 unfolding kept restored
 whole l s t mv b = rw (b.cells, b.ops, b.lane, b.regs, b.mem, b.failed) refl
 
--- what a move of nothing but stages leaves
+-- what a move that changes only stages leaves
 record Still (s t : State) : Type 0 where
   sidings : t.sidings ≡ s.sidings
   lane : t.lane ≡ s.lane

@@ -41,7 +41,7 @@ use Rattle.theory_confluence.proofs.drains.Right.{Fits, Follows, way_walk}
 use Rattle.theory_confluence.proofs.drains.Ways.{fits_way}
 use Rattle.std.proofs.lemmas.Bool.{or_parts}
 
--- with a longer lane no less may be waited for
+-- with a longer lane at least as much may be waited for
 lane_way : (s t : State) (x : Machine) (more : List ℕ) → t.lane ≡ s.lane ++ more → Follows (begin s x) (begin t x)
 lane_way s t x more e = record {
   path = record {
@@ -59,7 +59,7 @@ lane_way s t x more e = record {
   lost = λ a b. absurd (cc);
 }
 
--- the way of the state after Issue
+-- the walk over the state after Issue
 pub record Grown (isa : Isa) (s t : State) (x : Machine) (p : Passenger) : Type 0 where
   pub above : Way
   pub count : above.count ≡ (way isa s x).count
@@ -97,12 +97,12 @@ grown {rest} {out} l s x g r h =
           λ e. ap (λ (z : List Item). walk (past (isa_of l)) z (begin t x)) e;
     })
 
--- one more instruction takes nothing from the way
+-- one more instruction takes nothing from the walk
 pub past_grows : (isa : Isa) (i : ℕ) (p : Passenger) (w : Way) → (w.count ≤ (past isa (Up i p) w).count) × (w.stop ≡ true → (past isa (Up i p) w).stop ≡ true)
 unfolding past
 past_grows isa i p w = (grind arith, λ e. grind (arith, e))
 
--- an instruction at the machine's address adds to it, or ends it
+-- an instruction at the machine's address adds to the walk's count, or ends the walk
 pub past_first : (isa : Isa) (i : ℕ) (p : Passenger) (s : State) (x : Machine) → p.dead ≡ false → p.pc ≡ x.hart.pc →
     (1 ≤ (past isa (Up i p) (begin s x)).count) ⊎ ((past isa (Up i p) (begin s x)).stop ≡ true)
 unfolding past follows stops

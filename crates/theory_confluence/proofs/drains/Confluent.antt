@@ -1,5 +1,5 @@
--- Two runs without Issue from one moment that cannot be extended end alike; and the cached values of a drained state
--- are the registers'.
+-- Two maximal runs without Issue from the same moment end alike; and the cached values of a drained state are the
+-- registers'.
 use Rattle.std.proofs.Common.{◌≡◌, ◌+◌, List, [], ◌∷◌, Some, None, Bool, true, false, refl, sym, ap, subst, ◌∙◌}
 use Rattle.rv_inst.specs.declared.isa.Isa.{Isa}
 use Rattle.rv_machine.specs.Machine.{Machine}

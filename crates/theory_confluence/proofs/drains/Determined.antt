@@ -1,4 +1,4 @@
--- With issue held back the count and the kind of the end are determined by where the run began.
+-- With Issue held back the count and the kind of the end are determined by where the run began.
 use Rattle.std.proofs.Common.{◌≡◌, ℕ, suc, ◌+◌, List, [], ◌∷◌, ◌++◌, Option, Some, None, Bool, true, false, ◌&&◌, ◌==◌, refl, sym, ap, subst, ◌∙◌, arith, ◌⊎◌, inl, inr}
 use Rattle.std.specs.Prelude.{slice_index}
 use Rattle.cf_bind.specs.declared.cell.Cell.{Cell}
@@ -129,7 +129,7 @@ shift : (isa : Isa) (xs : List Item) (w : Way) → walk (past isa) xs (record w 
 shift isa [] w = refl
 shift isa (i ∷ xs) w = ap (λ (z : Way). walk (past isa) xs z) (shift_item isa i w) ∙ shift isa xs (past isa i w)
 
--- a step that ends, on the way
+-- a step that ends the program, in the walk
 ended_way : (isa : Isa) (s : State) (x : Machine) (n : ℕ) (p : Passenger) (e : End) → p.dead ≡ false → p.pc ≡ x.hart.pc → step_at isa x p.pc ≡ Stops e →
     ((past isa (Up n p) (begin s x)).count ≡ 0) × ((past isa (Up n p) (begin s x)).on ≡ false) × ((past isa (Up n p) (begin s x)).stop ≡ true)
 unfolding past follows stops
@@ -146,7 +146,8 @@ off : (isa : Isa) (xs : List Item) (w : Way) → w.on ≡ false → ((walk (past
 off isa [] w o = (refl, refl)
 off isa (i ∷ xs) w o = let a = off_item isa i w o in let b = off isa xs (past isa i w) a.1 in (b.0 ∙ a.0, b.1 ∙ a.2)
 
--- for a state over its machine: what has retired and what is on the path, together, and whether the way comes to an end
+-- for a state over its machine: what has retired and what is on the path, together, and whether the walk comes to an
+-- end
 pub record Total (isa : Isa) (s : State) (x : Machine) (n : ℕ) (b : Bool) : Type 0 where
   pub sum : s.retired + (way isa s x).count ≡ n
   pub stop : (way isa s x).stop ≡ b

@@ -1,4 +1,4 @@
--- The topmost instruction can always move, so that a stuck state has no instruction.
+-- The topmost instruction can always move, so a stuck state has no instruction.
 use Rattle.std.proofs.Common.{◌≡◌, ◌≢◌, ℕ, zero, suc, ◌+◌, ◌-◌, ◌<◌, ◌≤◌, List, [], ◌∷◌, ◌++◌, Option, Some, None, Bool, true, false, ◌==◌, ◌&&◌, ◌||◌, not, refl, sym, ap, subst, ◌∙◌, arith, length, add-one, ◌⊎◌, inl, inr}
 use Rattle.std.specs.Prelude.{slice_get, nat_lt}
 use Rattle.cf_bind.specs.declared.cell.Cell.{Cell}
@@ -59,7 +59,7 @@ row_at l s i c e = (rw e refl, rw e refl, rw e refl)
 row_serve : (l : Plan) (s : State) (c : Cell) → cell_at s.cells l.stages ≡ Some c → row_bar l s Serve ≡ serve_bar c
 row_serve l s c e = rw e refl
 
--- what is known of it
+-- what is known of the topmost instruction
 pub record Above (l : Plan) (s : State) (i : ℕ) (c : Cell) (p : Passenger) (below : List Item) : Type 0 where
   pub at_here : cell_at s.cells i ≡ Some c
   pub sits : c.passenger ≡ Some p
@@ -284,7 +284,7 @@ got_cell [] k c e = absurd (cc)
 got_cell (d ∷ cells) zero c e = omega arith
 got_cell (d ∷ cells) (suc k) c e = let h = got_cell cells k c e in omega arith
 
--- it is held at its stage, or at the highest
+-- it must not climb out of its stage, or it is in the highest
 head_held : (l : Plan) (s : State) → Barred l s → length s.cells ≡ l.stages → (q : Head 1 s.cells) → q.here.packet ≡ None → q.who.owes ≡ None →
     (stops_at l q.who (suc q.k) ≡ true) ⊎ ((suc q.k ≡ l.stages) × (((q.who.launched && not q.who.recovered) || (not q.who.dead && not q.who.done)) ≡ true))
 head_held l s b z q free owes = go (nat_lt (suc q.k) l.stages) refl
@@ -343,7 +343,7 @@ no_head {rest} {out} l s x acc b lane h q =
       held = head_held l s b h.size q free owes;
     })
 
--- what is left, and that the next instruction can be issued
+-- the moves that are left, and that the next instruction can be issued
 issue_free : (l : Plan) (s : State) (c : Cell) (pc : ℕ) → Suits l → s.lane ≡ [] → s.fetch ≡ Running pc → cell_at s.cells 1 ≡ Some c → c.passenger ≡ None →
     row_bar l s (Issue Next) ≡ None
 issue_free l s c pc acc e f g h =

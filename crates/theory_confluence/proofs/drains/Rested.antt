@@ -117,7 +117,7 @@ after_gained l x0 m h = ap (after (isa_of l) x0) (gained_is l x0 m h) ∙ h.afte
 pub retired_is : (l : Plan) (x0 : Machine) (m : Moment) (h : HoldsAfter l x0 m) → m.state.retired ≡ h.machine.hart.retired
 retired_is l x0 m h = h.count ∙ sym (after_counts (isa_of l) x0 h.machine h.gained h.after)
 
--- where nothing is in the pipes, each cached value is its register's
+-- if nothing is in the pipes, each cached value is its register's
 pub empty_keeps : (l : Plan) (x : Machine) (m : Moment) → Sound l m.state m.rest m.output x → column m.state ≡ [] → KeepsRegisters m.state
 empty_keeps l x m h e r v c =
     let k = subst (λ (q : List Item). sure.Keeps (walk (trail.past (isa_of l)) q (trail.top m.state x)) m.state.cache) e h.cache in

@@ -57,7 +57,7 @@ quiet a b e q h = rw (q, h) (omega arith)
 plain : (e : Event) → e ≡ event.Plain → is_retirement e ≡ false
 plain e h = rw h refl
 
--- a move whose event is a retirement counts one, any other none
+-- a move whose event is a retirement counts one, and any other counts none
 pub retires_so : (l : Plan) (m : Moment) (mv : Move) (e : Event) → bar l m.state mv ≡ None → IsEvent l m.state mv e →
     (next l m mv).state.retired ≡ m.state.retired + counts (is_retirement e) 1
 unfolding next

@@ -1,4 +1,4 @@
--- A change leaves the number of instructions on the sequential path.
+-- A change leaves the number of instructions on the sequential path unchanged.
 use Rattle.std.proofs.Common.{◌≡◌, ℕ, Bool, true, false, ◌&&◌, refl, sym, ap, ◌∙◌, arith, true≢false}
 use Rattle.cf_bind.specs.declared.packet.Packet.{Packet}
 use Rattle.cf_bind.specs.declared.passenger.Passenger.{Passenger}
@@ -108,7 +108,7 @@ item_goes_on isa (Down i k) w v f h = packet_follows isa i k w v f
 pub way_walk : (isa : Isa) → IsWalk Way (Fits isa) (past isa) Follows
 way_walk isa = record { stays = item_stays isa; goes_on = item_goes_on isa }
 
--- Execute, Recover: where a turn is owed, the guess was wrong and what follows is off the path
+-- Execute, Recover: if a turn is owed, the guess was wrong and what follows is off the path
 pub finish_way : (isa : Isa) (i : ℕ) (p q : Passenger) (w : Way) → q.pc ≡ p.pc → q.dead ≡ p.dead →
     paths.Follows (trail.past isa (Up i p) w.path) (trail.past isa (Up i q) w.path) → (w.path.barred ≡ false → p.dead ≡ false → trail.turns q.owes ≡ true →
     ahead (past isa (Up i p) w) ≡ false) → trail.turns p.owes ≡ false → Follows (past isa (Up i p) w) (past isa (Up i q) w)

@@ -1,4 +1,5 @@
--- Each move's change leaves the number of instructions on the sequential path, and whether one of them ends.
+-- The change of each move leaves unchanged how many instructions are on the sequential path, and whether one of them
+-- ends the program.
 use Rattle.std.proofs.Common.{◌≡◌, ℕ, [], ◌∷◌, Option, Some, None, true, false, refl, arith}
 use Rattle.cf_bind.specs.Meeting.{meeting}
 use Rattle.cf_bind.specs.declared.packet.Packet.{Packet}
@@ -46,7 +47,7 @@ pub meet_count : (isa : Isa) (i : ℕ) (p : Passenger) (k : Packet) (w : Way) �
 unfolding past trail.past meeting follows stops
 meet_count isa i p k w = (grind arith, grind arith, grind arith)
 
--- Execute, Recover: where a turn or a halt is owed, what follows is off the path
+-- Execute, Recover: if a turn or a halt is owed, what follows is off the path
 pub finish_ahead : (isa : Isa) (i : ℕ) (p : Passenger) (w : Way) (a : Option ℕ) → p.done ≡ false →
     goto_undone (kind p) p ≡ guessed p.guess (instruction p) p.pc → p.dead ≡ false → w.path.barred ≡ false →
     Finishes p w.path.machine (step_at isa w.path.machine p.pc) a → trail.turns (finish p a).owes ≡ true → ahead (past isa (Up i p) w) ≡ false

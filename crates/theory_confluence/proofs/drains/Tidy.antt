@@ -1,5 +1,5 @@
--- What else every move preserves: a stage that has met holds an instruction and a result, no siding comes or goes, and
--- nothing fails.
+-- What else every move preserves: a stage that has met holds an instruction and a result, the number of sidings is
+-- unchanged, and nothing fails.
 use Rattle.std.proofs.Common.{◌≡◌, ℕ, zero, suc, ◌+◌, ◌-◌, List, [], ◌∷◌, length, Option, Some, None, Bool, true, false, ◌&&◌, ◌||◌, not, refl, ap, ◌∙◌, arith}
 use Rattle.std.specs.Prelude.{slice_get, slice_set, replicate, map}
 use Rattle.rv_machine.specs.Machine.{Machine}
@@ -25,7 +25,7 @@ use Rattle.theory_refinement.proofs.moves.Send.{send_ready}
 use Rattle.cf_semantics.specs.runs.Runs.{IsRun, run, opened, empty_cell, empty_siding}
 use Rattle.theory_refinement.proofs.moves.Leave.{left_cells}
 
--- a stage has met only where both are there
+-- a stage has met only if both are there
 abbrev pub is_neat : Cell → Bool
 is_neat c = not c.met || (is_some c.passenger && is_some c.packet)
 
@@ -67,7 +67,7 @@ pub record IsTidy (plan : Plan) (s : State) : Type 0 where
   pub sidings : length s.sidings ≡ length plan.sidings
   pub failed : s.failed ≡ false
 
--- what is done where there is something
+-- a choice by whether there is something
 neat_on : {A : Type 0} → (o : Option A) (d : State) (f : A → State) → all_neat d.cells ≡ true → ((a : A) → o ≡ Some a → all_neat (f a).cells ≡ true) →
     all_neat (on o d f).cells ≡ true
 neat_on None d f h g = h

@@ -1,4 +1,4 @@
--- What is fetched depends only on code, and what is loaded only on bytes, where the regions have the same bounds.
+-- What is fetched depends only on code, and what is loaded depends only on bytes, if the regions have the same bounds.
 use Rattle.std.proofs.Common.{◌≡◌, ℕ, ◌-◌, List, [], ◌∷◌, Option, Some, Bool, true, false, Result, Err, refl, ap, ◌∙◌, cond}
 use Rattle.std.specs.Prelude.{find, map, take, drop, if◌then◌else◌}
 use Rattle.std.specs.Option.{option_map}
@@ -110,7 +110,7 @@ memory_same m n e f g h = both (areas_same m.areas n.areas e f g) h
     both : {as' bs : List Area} {a b : ℕ} → as' ≡ bs → a ≡ b → memory as' a ≡ memory bs b
     both e f = rw (e, f) refl
 
--- what a write leaves of the bytes
+-- the bytes after a write
 written_bytes : ℕ → List ℕ → Bounds → List ℕ → List ℕ
 written_bytes addr w b bytes = overwritten bytes (addr - b.base) w
 

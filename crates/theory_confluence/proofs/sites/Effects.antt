@@ -1,4 +1,4 @@
--- The effect of a move as new contents of some sites: it is made of what the move reads, and it is made at the sites
+-- The effect of a move as new contents of some sites: it depends on what the move reads, and it is made at the sites
 -- that the move writes.
 use Rattle.std.proofs.Common.{◌≡◌, ℕ, zero, suc, ◌+◌, ◌-◌, List, [], ◌∷◌, ◌++◌, length, Option, Some, None, Bool, true, false, refl, sym, ap, ◌∙◌, arith}
 use Rattle.std.specs.Prelude.{slice_get, slice_set, slice_index, unwrap_or}

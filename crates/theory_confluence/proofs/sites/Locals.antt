@@ -94,7 +94,7 @@ on_same (Some a) d f g h = h a
 none_touched : (x : Site) → touches nothing x ≡ true → ⊥
 none_touched x e = grind arith
 
--- an effect made where there is something
+-- an effect that is made if there is something
 on_within : {A : Type 0} → (o : Option A) (g : A → Effect) (x : Site) (b : Bool) → ((a : A) → touches (g a) x ≡ true → b ≡ true) →
     touches (on o nothing g) x ≡ true → b ≡ true
 on_within None g x b h e = absurd (none_touched x e)

@@ -1,4 +1,5 @@
--- The table of sites is right: a move leaves what it does not write, and what it does depends only on what it reads.
+-- The table of sites is right: a move leaves what it does not write unchanged, and what it does depends only on what it
+-- reads.
 use Rattle.std.proofs.Common.{◌≡◌, ℕ, zero, suc, List, [], ◌∷◌, ◌++◌, Option, Some, None, Bool, true, false, ◌==◌, ◌||◌, refl, sym, ap, subst, ◌∙◌, arith}
 use Rattle.std.specs.Prelude.{slice_get, slice_set, unwrap_or}
 use Rattle.mem_regions.specs.Memory as regions
@@ -30,7 +31,7 @@ use Rattle.theory_confluence.proofs.sites.Independent.{is_serve, next_made}
 use Rattle.theory_confluence.proofs.sites.Locals.{has_law, stage_same}
 use Rattle.theory_confluence.proofs.sites.Touches.{accessing, cell_other, codes_stay, framed, made, op_other, get_other, touches, untouched, differ}
 
--- a put leaves the same where the same was
+-- setting a site keeps two moments the same where they were the same
 alike : (i j : ℕ) → (i == j) ≡ true → i ≡ j
 alike i j e = grind (arith, e)
 
@@ -98,7 +99,7 @@ bytes_in : (m t : Moment) → content m Memory ≡ content t Memory → (bytes_o
     × (m.state.mem.program_break ≡ t.state.mem.program_break)
 bytes_in m t e = (cc, cc)
 
--- an effect leaves the same where the same was
+-- an effect keeps two moments the same where they were the same
 put_same : (e : Effect) (m t : Moment) (x : Site) → HasFrame m.state t.state → content m x ≡ content t x → content (made e m) x ≡ content (made e t) x
 put_same e m t (Stage j) f h = ap OfStage (stages_put e.stages m.state.cells t.state.cells j (cc))
 put_same e m t (SidingCell k c) f h = ap OfCell (ops_put e.ops m.state.sidings t.state.sidings k c (cc))

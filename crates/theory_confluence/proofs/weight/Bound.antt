@@ -31,7 +31,7 @@ use Rattle.rv_inst.specs.declared.classes.Class.TheVariants.{Serial}
 use Rattle.rv_machine.specs.Machine.{Machine}
 use Rattle.std.specs.Prelude.{map, replicate}
 
--- an instruction is where it may be
+-- each instruction is at a stage where it may be
 pub stands_at : {rest out : List ℕ} (l : Plan) (s : State) (x : Machine) (i : ℕ) (c : Cell) (p : Passenger) → cell_at s.cells i ≡ Some c →
     c.passenger ≡ Some p → Sound l s rest out x → Stands l i p
 stands_at {rest} {out} l s x i c p e f h =
@@ -83,7 +83,7 @@ issue_rises l s g z e =
         suc (((b + r) + q) + y) ≤ ((w + q) + x) + (8 * n + d + 8)
     sum n d a b r q x y w e f g = omega arith
 
--- each move costs one, and each Issue gives K
+-- each move lowers the weight by at least one, and each Issue raises it by less than K
 pub costs : (l : Plan) (m : Moment) (x : Machine) (mv : Move) → Suits l → bar l m.state mv ≡ None → Sound l m.state m.rest m.output x →
     suc (weight l (next l m mv).state) ≤ weight l m.state + moves_per_issue l * counts (is_issue mv) 1
 unfolding next
@@ -111,7 +111,7 @@ costs l m x mv acc e h = go mv e
     go Exit e = free _ _ (exit_falls l s e)
     go Serve e = free _ _ (serve_falls l m (λ r. aboard l r.who acc r.serial r.live r.undone (stands_at l s x l.stages r.here r.who r.at_here r.sits h)) e)
 
--- where a move is allowed the program has not ended, and the state is sound
+-- if a move is allowed, the program has not ended and the state is sound
 pub sound_at : (l : Plan) (x0 : Machine) (m : Moment) (mv : Move) → bar l m.state mv ≡ None → (h : HoldsAfter l x0 m) →
     Sound l m.state m.rest m.output h.machine
 sound_at l x0 m mv e h = subst (HoldsAt l m.state m.rest m.output h.machine) (going l m.state mv e) h.stage
@@ -168,7 +168,7 @@ bounded_run l x0 moves acc w r =
     nothing : IsRun l (start l x0) []
     nothing = unfold IsRun in tt
 
--- with issue held back, a run from a reached moment has at most as many moves as the weight
+-- with Issue held back, a run from a reached moment has at most as many moves as the weight
 pub bounded_drain : (l : Plan) (x0 : Machine) (m : Moment) (more : List Move) → Suits l → HoldsAfter l x0 m → IsRun l m more → issues more ≡ 0 →
     length more ≤ weight l m.state
 bounded_drain l x0 m more acc h q z =

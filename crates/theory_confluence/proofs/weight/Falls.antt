@@ -111,7 +111,7 @@ emit_cell : (n d : ℕ) (c : Cell) (k : Packet) → 0 < n → c.packet ≡ None 
 unfolding cell_weight
 emit_cell n d c k l e = grind arith
 
--- a sum of which one part falls
+-- a sum with one part that falls
 less_within : (a b c x : ℕ) → x < a → (x + b) + c < (a + b) + c
 less_within a b c x h = omega arith
 

@@ -98,7 +98,7 @@ one_on : (n j : ℕ) (op : Op) (r : ℕ) → suc j < n → suc (op_weight n j No
 unfolding op_weight
 one_on n j op r e = omega arith
 
--- an operation that goes one cell on
+-- an operation that moves on by one cell
 pub slide_weight : (n j : ℕ) (q : List (Option Op)) (c : ℕ) (op : Op) → j + length q ≤ n → slice_get q c ≡ Some (Some op) → slice_get q (suc c) ≡ Some None →
     suc (siding_weight n j (slice_set (slice_set q c None) (suc c) (Some op))) ≡ siding_weight n j q
 slide_weight n j [] c op b e f = absurd (cc)

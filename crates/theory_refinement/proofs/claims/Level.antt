@@ -1,5 +1,5 @@
--- Where output and memory are level with the retired count: in a drained state; the output also where an instruction
--- has just retired.
+-- When output and memory are level with the retired count: in a drained state; the output also when an instruction has
+-- just retired.
 use Rattle.std.proofs.Common.{◌≡◌, ℕ, zero, suc, ◌<◌, List, [], ◌∷◌, Option, Some, None, Bool, true, false, ◌&&◌, ◌||◌, not, refl, ap, arith}
 use Rattle.std.specs.Prelude.{slice_get, slice_set}
 use Rattle.std.specs.List.{list_any}
@@ -83,7 +83,7 @@ leave_unserved plan s free =
     let r : Leaves plan s = leave_ready plan s (bar_row plan s Leave free) in
     rw (next_leave plan s r.here r.who r.at_here r.sits, left_cells s plan.stages r.here r.who) (left_unserved s.cells plan.stages r.here)
 
--- where an instruction has just retired no call was served, so that the output is level: as where a run stops at its
+-- if an instruction has just retired, no call was served, so the output is level: for instance when a run stops at its
 -- limit
 pub retired_unserved : (plan : Plan) (m : Moment) (mv : Move) → bar plan m.state mv ≡ None → m.state.retired < (next plan m mv).state.retired →
     served_count plan (next plan m mv).state ≡ 0

@@ -25,7 +25,7 @@ use Rattle.theory_refinement.proofs.claims.Runs.{holds_after}
 plus : (isa : Isa) (m : Machine) (n c : ℕ) (x : Machine) → c ≡ 0 → after isa m n ≡ Some x → after isa m (n + c) ≡ Some x
 plus isa m n c x e a = let q : n + c ≡ n = omega arith in ap (after isa m) q ∙ a
 
--- where the invariant holds at a moment, what it shows is what the machine does
+-- if the invariant holds at a moment, what it shows is what the machine does
 pub refined : (l : Plan) (x0 : Machine) (w : List Line) (m : Moment) (x : Machine) → Suits l → x0.hart.retired ≤ m.state.retired →
     w ≡ sequence (isa_of l) x0 (gained x0 m.state) → after (isa_of l) x0 (gained x0 m.state) ≡ Some x → (o : Option End) → m.state.ending ≡ o →
     HoldsAt l m.state m.rest m.output x o → Refines l x0 w m

@@ -73,7 +73,7 @@ path plan s x h p =
     let k = here plan s x p.above (Up p.stage p.who ∷ []) p.below p.split h in
     under (is_sure p.who w) (on_path (isa_of plan) p.who w) (certain (isa_of plan) p.stage p.who w k.path_fit.0)
 
--- (d) first barrier: where the last sure instruction is executed without ending the program, the program goes on at the
+-- (d) first barrier: if the last sure instruction is executed without ending the program, the program goes on at the
 -- machine's address
 Level : Walk → Type 0
 Level w = w.barred ≡ false → w.settled ≡ true → w.goto ≡ Some w.machine.hart.pc

@@ -68,8 +68,7 @@ after_packet : (isa : Isa) (n i : ℕ) (k : Packet) (xs : List Item) (w : trail.
 after_packet isa zero i k xs w = sym (path_result isa i k w).0
 after_packet isa (suc n) i k xs w = refl
 
--- where nothing is risky, the live instructions so far are the sure ones: after them the column goes on as the rest
--- does
+-- if nothing is risky, the live instructions so far are the sure ones: after them the column goes on as the rest does
 abbrev pub GoesOn : Isa → List Item → trail.Walk → List Item → dock.Dock → ahead.PortTally → Type 0
 GoesOn isa all from xs w t = w.risky ≡ false → (n : ℕ) → machine_after isa (t.live + n) all from ≡ machine_after isa n xs w.path
 

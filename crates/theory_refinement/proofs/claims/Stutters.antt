@@ -1,4 +1,4 @@
--- Move by move: seen from outside, a move is no step of the sequential machine, or exactly its next one.
+-- Move by move: seen from outside, a move either is not a step of the sequential machine or is exactly its next one.
 use Rattle.std.proofs.Common.{◌≡◌, ℕ, suc, ◌+◌, List, [], ◌∷◌, ◌++◌, Some, None, Bool, true, false, refl, sym, ap, subst, ◌∙◌, arith, ◌⊎◌, inl, inr}
 use Rattle.rv_machine.specs.After.{after}
 use Rattle.rv_machine.specs.Call.{Called}
@@ -171,7 +171,7 @@ spoken_steps l m x Leave e h = inl (record { rest = refl; output = refl })
 spoken_steps l m x Exit e h = inl (record { rest = refl; output = refl })
 spoken_steps l m x Serve e h = (serve_steps l m x e h).spoken
 
--- the machine after the live instructions of the column, as far as nothing bars the path
+-- the machine after the live instructions of the column, as long as nothing bars the path
 path_on : (l : Plan) (m : Machine) (n : ℕ) (xs : List Item) (w : dock.Dock) (t : ahead.PortTally) → Each l xs →
     Everywhere (sure.Fits (isa_of l)) (trail.past (isa_of l)) xs w.path → Everywhere (dock.Fits (isa_of l)) (dock.past (isa_of l)) xs w →
     (w.path.barred ≡ true → w.risky ≡ true) → Out xs → (walk (dock.past (isa_of l)) xs w).risky ≡ false → OnPath (isa_of l) m n w t →

@@ -1,4 +1,4 @@
--- A change of nothing but cells, through all parts of the invariant.
+-- A change of the cells alone, through all parts of the invariant.
 use Rattle.mem_regions.specs.Memory.{Memory}
 use Rattle.std.proofs.Common.{Bool, List, Option, [], ap, arith, false, length, not, refl, sym, true, true≢false, ℕ, ◌++◌, ◌∙◌, ◌∷◌, ◌≡◌}
 use Rattle.std.specs.Prelude.{if◌then◌else◌}
@@ -161,7 +161,7 @@ reshaped {rest} {out} {r} {o} l s t x above old new below was is q fp fl n d m h
       moored = m;
     }
 
--- the port's part, where its walk begins as before and memory, input and output stay
+-- the port's part, if its walk begins as before and memory, input and output are unchanged
 pub docked : {rest out : List ℕ} (l : Plan) (s t : State) (x : Machine) (above old new below : List Item) → column s ≡ above ++ (old ++ below) →
     column t ≡ above ++ (new ++ below) → dock.top l t x ≡ dock.top l s x → t.mem ≡ s.mem →
     Replaces dock.Dock (dock.Fits (isa_of l)) (dock.past (isa_of l)) ports.Follows old new (walk (dock.past (isa_of l)) above (dock.top l s x)) →
@@ -188,7 +188,7 @@ changed {rest} {out} l s x cells above old new below was is n f h =
     })
     h
 
--- a change of nothing but the sidings and memory
+-- a change of the sidings and the memory alone
 pub beside : {rest out : List ℕ} (l : Plan) (s : State) (x : Machine) (sidings : List (List (Option Op))) (mem : Memory) →
     Docks l (record s { sidings = sidings; mem = mem }) rest out x → IsMoored l (record s { sidings = sidings; mem = mem }) (column s) → Sound l s rest out x →
     Sound l (record s { sidings = sidings; mem = mem }) rest out x

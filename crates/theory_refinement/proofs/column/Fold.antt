@@ -25,7 +25,7 @@ pub record IsWalk (W : Type 0) (Fits : Item → W → Type 0) (past : Item → W
   pub stays : (i : Item) (w v : W) → Follows w v → Fits i w → Fits i v
   pub goes_on : (i : Item) (w v : W) → Follows w v → Fits i w → Follows (past i w) (past i v)
 
--- where old fits below w, so does new, and the walk goes on below new as it does below old
+-- if old fits below w, so does new, and the walk goes on below new as it does below old
 pub record Replaces (W : Type 0) (Fits : Item → W → Type 0) (past : Item → W → W) (Follows : W → W → Type 0) (old new : List Item) (w : W) : Type 0 where
   pub fit : Everywhere Fits past old w → Everywhere Fits past new w
   pub follows : Everywhere Fits past old w → Follows (walk past old w) (walk past new w)

@@ -146,7 +146,7 @@ pub some_cells : {A : Type 0} → (l : List A) (c : ℕ) (a : A) → slice_get l
 some_cells [] c a e = absurd (cc)
 some_cells (b ∷ l) c a e = (length l, refl)
 
--- where one siding changes, the port's answer is unchanged if that siding's is
+-- if one siding changes, the port's answer is unchanged if that siding's is
 pub answer_here : (l : Plan) (s t : State) (k : ℕ) (q : List (Option Op)) (n : ℕ) → t.sidings ≡ slice_set s.sidings k q → length (siding_at s k) ≡ suc n →
     (k ≡ (port l) → last_answer q ≡ last_answer (siding_at s k)) → last_answer (siding_at t (port l)) ≡ last_answer (siding_at s (port l))
 answer_here l s t k q n e b f = go (k == (port l)) refl

@@ -1,4 +1,4 @@
--- What a machine of RV32I does as long as it goes on, one of RV32IM does too.
+-- As long as a machine of RV32I goes on, a machine of RV32IM does the same.
 use Rattle.std.proofs.Common.{◌≡◌, ℕ, zero, suc, List, [], ◌++◌, Option, Some, None, refl, sym, ap, ◌∙◌}
 use Rattle.rv_inst.specs.declared.instruction.Instr.{Instr}
 use Rattle.rv_inst.specs.declared.isa.Isa.{Isa}
@@ -33,7 +33,7 @@ fetched_by_both x i e =
 same_step : (x : Machine) (i : Instr) → fetched Rv32i x.hart.mem x.hart.pc ≡ Got i → step_here Rv32i x ≡ step_here Rv32im x
 same_step x i e = step_is Rv32i x x.hart.pc i e ∙ sym (step_is Rv32im x x.hart.pc i (fetched_by_both x i e))
 
--- and its line says the same, read as of either set
+-- and its line says the same, read by either set
 same_reading : (x : Machine) (i : Instr) (w r : ℕ) (o : outcome.Outcome Machine) → decoded_as Rv32i w ≡ Some i → GivesOwn x w r o →
     lines_in Rv32i o ≡ lines_in Rv32im o
 same_reading x i w r (outcome.Next n own) e h =

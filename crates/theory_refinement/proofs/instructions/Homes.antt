@@ -26,7 +26,7 @@ both true true e = (refl, refl)
 both true false e = absurd (cc)
 both false b e = absurd (cc)
 
--- a class of the extension has a home where the processor multiplies and divides
+-- a class of the extension has a home if the processor multiplies and divides
 extra_homed : (l : Plan) (c : Class) → has_mul l ≡ true → is_extra c ≡ true → is_homed l c ≡ true
 unfolding has_mul
 extra_homed l Mul m e = (both (is_homed l Mul) (is_homed l Div) m).0

@@ -33,8 +33,7 @@ use Rattle.cf_semantics.specs.moves.Instructions.{kind_of, Got, fetched, registe
 use Rattle.cf_semantics.specs.runs.Lines.{Line, row, named, line_read, lines_in, lines_at}
 use Rattle.theory_refinement.proofs.instructions.Steps.{IsFetched, fetched_is, step_executes, dst_below, store_bare, serial_destination, call_destination}
 
--- the line has the address, the word and the register; its value is the one that the register gets, and 0 where that is
--- x0
+-- the line has the address, the word and the register; its value is the one that the register gets, or 0 for x0
 pub record IsOwn (x : Machine) (w r : ℕ) (n : Machine) (own : Retired) : Type 0 where
   pub pc : own.pc ≡ x.hart.pc
   pub word : own.word ≡ w
@@ -43,7 +42,7 @@ pub record IsOwn (x : Machine) (w r : ℕ) (n : Machine) (own : Retired) : Type 
   pub value : own.value ≡ (if r == 0 then 0 else got)
   pub regs : n.hart.regs ≡ machine.with_register x.hart.regs r got
 
--- so it is for an outcome that goes on
+-- so this holds of an outcome that goes on
 abbrev pub GivesOwn : Machine → ℕ → ℕ → outcome.Outcome Machine → Type 0
 GivesOwn x word r (outcome.Next n own) = IsOwn x word r n own
 GivesOwn x word r (outcome.Trap cause pc detail) = Unit {0}

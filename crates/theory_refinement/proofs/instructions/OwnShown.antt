@@ -1,4 +1,4 @@
--- The line that is read off a step of the sequential machine is that of the step, and no other.
+-- The line that is read from a step of the sequential machine is that of the step, and no other.
 use Rattle.std.proofs.Common.{◌≡◌, ℕ, ◌<◌, ◌^◌, Option, Some, Bool, true, false, refl, sym, ap, subst, ◌∙◌, arith}
 use Rattle.std.specs.Prelude.{◌==◌, if◌then◌else◌}
 use Rattle.std.proofs.lemmas.Bool.Decides.{nat_tests}

@@ -1,4 +1,4 @@
--- What the proofs about moves use about single instructions: nowhere else do they depend on the instruction set.
+-- What the proofs about moves use about single instructions; nowhere else do they depend on the instruction set.
 use Rattle.std.proofs.Common.{◌≡◌, ◌≢◌, ℕ, ◌-◌, ◌%◌, ◌<◌, List, [], Option, Some, None, Bool, true, false, Result, Ok, Err, refl, sym, ap, ◌∙◌, arith, length, length-set, append-nil}
 use Rattle.std.proofs.lemmas.Bool.Decides.{nat_tests}
 use Rattle.std.proofs.lemmas.List.{get_or-set_other}
@@ -85,7 +85,7 @@ pub step_executes : (isa : Isa) (x : Machine) (i : Instr) (f : IsFetched isa x.h
 unfolding kind_of machine.step machine.step_on
 step_executes isa x i f = rw (f.aligned, f.found, f.read) refl
 
--- what is read off a word is in range
+-- what is read from a word is in range
 read_fits : (isa : Isa) (w : ℕ) (i : Instr) → decoded_as isa w ≡ Some i → Fits i
 unfolding decoded_as
 read_fits Rv32i w i e = of_some (decoded w) (decoded_fits w) e
@@ -118,7 +118,7 @@ source_value regs r = go (r == 0) refl
     go true e = rw e refl
     go false e = rw e refl
 
--- a destination is written, where there is one
+-- a destination is written, if there is one
 destination_written : (regs : List ℕ) (r v : ℕ) → machine.with_register regs r v ≡ value_written regs (register r) v
 destination_written regs r v = go (r == 0) refl
   where
@@ -321,7 +321,7 @@ step_is isa x pc i e =
     let f = fetched_is isa x.hart.mem pc i e in
     ap stepped (step_executes isa (at_pc x pc) i f) ∙ executes (kind_of i) (at_pc x pc) f.word i refl f.aligned
 
--- where nothing is fetched, the step is that trap
+-- if nothing is fetched, the step is that trap
 read_stops : (isa : Isa) (x : Machine) (w : ℕ) (o : Option Instr) (e : End) → read_as x.hart.pc w o ≡ Bad e →
     stepped (machine.after_output x.output (machine.interpret x.hart x.rest w o)) ≡ Stops e
 read_stops isa x w None e h = let g : Trap 2 x.hart.pc w ≡ e = cc in ap Stops g

@@ -42,7 +42,7 @@ one_home plan acc c e = go (is_extra c) refl
     go true f = extra c f
     go false f = let n = acc.needed c (grind arith) in omega arith
 
--- where there are no units, none is at a stage
+-- if there are no units, none is at a stage
 no_unit : (xs : List ℕ) (i : ℕ) → xs ≡ [] → list_any (nat_eq i) xs ≡ true → ⊥
 no_unit [] i e f = cc
 no_unit (x ∷ xs) i e f = cc

@@ -1,4 +1,4 @@
--- What is read off the lists of an accepted layout.
+-- What is read from the lists of an accepted layout.
 use Rattle.std.proofs.Common.{◌≡◌, ℕ, suc, ◌<◌, ◌≤◌, List, [], ◌∷◌, Option, Some, None, Bool, true, false, cond, get_or, length, refl, sym, ap, subst, ◌∙◌, arith, ◌⊎◌, inl, inr}
 use Rattle.std.specs.Prelude.{◌+◌, ◌||◌, All, filter, position, slice_get, unwrap_or, option_map, nat_eq, nat_lt}
 use Rattle.std.specs.List.{list_any}
@@ -13,7 +13,7 @@ use Rattle.cf_layout.specs.Layout.{Plan, SidingPlan, homes, last_of, no_siding, 
 use Rattle.cf_layout.specs.Accepted.{IsAccepted, IsStage}
 use Rattle.cf_semantics.specs.state.Options.{is_some}
 
--- one passes the test where the filter keeps some
+-- some element passes the test if the filter keeps some
 first_kept : {A : Type 0} (p : A → Bool) (xs : List A) → is_some (position p xs) ≡ nat_lt 0 (length (filter p xs))
 first_kept p [] = refl
 first_kept p (x ∷ xs) = rw (position-cons p x xs) (go (p x) (position p xs) (filter p xs) (first_kept p xs))
@@ -66,7 +66,7 @@ pub unplaced : (plan : Plan) → IsAccepted plan → (c : Class) → 9 ≤ place
 unfolding stages_of
 unplaced plan acc c n = rw (slice_get_past plan.units (place_of c) (rw acc.classes n)) refl
 
--- what holds of all holds of one among them
+-- what holds of all elements holds of each of them
 pub of_any : (P : ℕ → Type 0) (i : ℕ) (xs : List ℕ) → list_any (nat_eq i) xs ≡ true → All P xs → P i
 of_any P i [] e h = absurd (cc)
 of_any P i (x ∷ xs) e h = go (nat_eq i x) refl e (λ g. of_any P i xs g (λ k d n. h (suc k) d (omega arith)))
@@ -75,7 +75,7 @@ of_any P i (x ∷ xs) e h = go (nat_eq i x) refl e (λ g. of_any P i xs g (λ k 
     go true f g r = let s : x ≡ i = grind (arith, nat_tests) in subst P s (h 0 x (omega arith))
     go false f g r = r g
 
--- the last of some is among them
+-- the last of some elements is one of them
 pub last_among : (x : ℕ) (xs : List ℕ) → list_any (nat_eq (last_of xs x)) (x ∷ xs) ≡ true
 last_among x [] = grind (arith, nat_tests)
 last_among x (y ∷ ys) = rw (last_among y ys) (or_true (nat_eq (last_of ys y) x))
@@ -95,7 +95,7 @@ pub none_or_some : (xs : List ℕ) (other : ℕ) → ((xs ≡ []) × (unit_homes
 none_or_some [] other = inl (refl, refl, refl)
 none_or_some (x ∷ xs) other = inr (refl, last_among x xs)
 
--- a class that goes through a siding for Memory alone is Memory
+-- if a class goes through a siding for Memory alone, it is Memory
 pub memory_only : (c : Class) (siding : SidingPlan) → siding.classes ≡ Memory ∷ [] → serves siding c ≡ true → c ≡ Memory
 unfolding serves
 memory_only c siding e s = one c (rw e at s)

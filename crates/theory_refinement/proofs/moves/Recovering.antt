@@ -1,4 +1,4 @@
--- Recover: what it finds where nothing bars it, and the sidings once the operation is out.
+-- Recover: what it finds if nothing bars it, and the sidings once the operation is out.
 use Rattle.std.proofs.Common.{◌≡◌, ◌≢◌, ℕ, suc, ◌<◌, ◌≤◌, List, [], ◌∷◌, ◌++◌, Option, Some, None, Bool, true, false, ◌==◌, ◌||◌, ◌&&◌, not, refl, sym, ap, ◌∙◌, arith, length}
 use Rattle.cf_bind.specs.declared.cell.Cell.{Cell}
 use Rattle.cf_bind.specs.declared.cell.Op.{Op}

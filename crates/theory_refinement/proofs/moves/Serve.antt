@@ -278,7 +278,7 @@ quit_stands l acc p e u k h = record {
 undone_serial : (p : Passenger) → p.dead ≡ false → p.done ≡ false → kind p ≡ Serial → (is_lone p ≡ true) × (ahead.has_served p ≡ false)
 undone_serial p d u k = (grind arith, grind arith)
 
--- all that is known where it is served
+-- all that is known when it is served
 pub record Scene (l : Plan) (s : State) (rest out : List ℕ) (x : Machine) (r : Serves l s) : Type 0 where
   pub below : List Item
   pub was : column s ≡ Up l.stages r.who ∷ below

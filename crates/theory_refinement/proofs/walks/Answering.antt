@@ -139,7 +139,7 @@ unfolding past
 path_past isa (Up i p) w = refl
 path_past isa (Down i k) w = refl
 
--- where nothing above is still to touch memory, the port's memory is that of the path
+-- if nothing above will still touch memory, the port's memory is that of the path
 pub fresh_above : (isa : Isa) (xs : List Item) (w : Dock) → Settled xs → Everywhere (sure.Fits isa) (trail.past isa) xs w.path →
     (w.path.barred ≡ true → w.risky ≡ true) → (walk (past isa) xs w).risky ≡ false → w.mem ≡ w.path.machine.hart.mem →
     (walk (past isa) xs w).mem ≡ (walk (past isa) xs w).path.machine.hart.mem

@@ -53,7 +53,7 @@ pub no_rider : (i : ℕ) (p : Passenger) → Fits (Up i p) true → ⊥
 unfolding Fits
 no_rider i p h = cc
 
--- above an instruction is nothing that nothing may follow
+-- nothing that nothing may follow is above an instruction
 pub lone_open : (i : ℕ) (p : Passenger) (b : Bool) → Fits (Up i p) b → b ≡ false
 unfolding Fits
 lone_open i p b h = h

@@ -58,7 +58,7 @@ pub served_calm : (isa : Isa) (p : Passenger) (w : Dock) → DockedAt isa p w �
 unfolding DockedAt
 served_calm isa p w h e = h.served e
 
--- where the test holds the machines are the same
+-- if the test holds, the machines are the same
 either : {A : Type 0} (isa : Isa) (b : Bool) (x y : Machine) (pc : ℕ) (part : Machine → A) (o o' : A) → (b ≡ true → x ≡ y) → o ≡ o' →
     (if b then part (after_step (step_at isa x pc) x) else o) ≡ (if b then part (after_step (step_at isa y pc) y) else o')
 either isa true x y pc part o o' f e = rw (f refl)
@@ -123,7 +123,7 @@ past_follows isa (Down i k) w v f h = past_packet_follows isa i k w v f (paths.p
 pub port_walk : (isa : Isa) → IsWalk Dock (Fits isa) (past isa) Follows
 port_walk isa = record { stays = item_follows isa; goes_on = past_follows isa }
 
--- where nothing may turn the program there is no barrier
+-- if nothing may turn the program, there is no barrier
 pub open_of : (w : Dock) → (w.path.barred ≡ true → w.risky ≡ true) → w.risky ≡ false → w.path.barred ≡ false
 open_of w f e = go w.path.barred refl
   where

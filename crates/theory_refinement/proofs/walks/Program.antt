@@ -1,4 +1,4 @@
--- Where nothing above holds fetch, the core's code is that of the machine after the sure instructions.
+-- If nothing above holds fetch, the core's code is that of the machine after the sure instructions.
 use Rattle.cf_semantics.specs.moves.Fetches.{code_of}
 use Rattle.std.proofs.Common.{◌≡◌, ℕ, List, [], ◌∷◌, Bool, true, false, arith}
 use Rattle.cf_bind.specs.declared.passenger.Passenger.{Passenger}

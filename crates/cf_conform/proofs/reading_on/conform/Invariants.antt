@@ -3,7 +3,7 @@ use Rattle.cf_conform.specs.LogPlaces.{LogPlace, log_place}
 use Rattle.cf_conform.proofs.Turning.{LogComes}
 use Rattle.cf_conform.proofs.reading_on.conform.Given as goal
 
--- the lines so far are gone through, and no fault was counted
+-- the lines so far are processed, and no fault was counted
 abbrev pub invariant-loop-lines : goal.invariant-loop-lines
 invariant-loop-lines g l =
     let left = g.L.Source.left in

@@ -1,4 +1,4 @@
--- What `==` answers for operations decides for lists of them.
+-- As `==` decides whether two operations are the same, it decides whether two lists of them are.
 use Rattle.std.proofs.lemmas.Slice.Eq.{slice_eq-Decides}
 use Rattle.cf_core.proofs.Sameness.{op_decides}
 use Rattle.cf_stages.proofs.Deciding.{option_decides}

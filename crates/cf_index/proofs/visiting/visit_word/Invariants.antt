@@ -3,7 +3,7 @@ use Rattle.cf_index.specs.Places.{set_places}
 use Rattle.cf_index.specs.Spread.{numbered}
 use Rattle.cf_index.proofs.visiting.visit_word.Given as goal
 
--- with those that are left the visitor becomes what it becomes with all
+-- after the moves that are left the visitor is what it is after all of them
 abbrev pub invariant-loop-rest : goal.invariant-loop-rest
 invariant-loop-rest g l =
     fold g.V.Visitor.after l.visitor (map (numbered l.kind) (set_places 64 l.rest))

@@ -1,4 +1,4 @@
--- A siding that is not refused is passed over.
+-- A siding that is not refused is skipped.
 use Rattle.std.proofs.Common.{◌∙◌}
 use Rattle.cf_layout.proofs.Passing.{none_told}
 use Rattle.cf_layout.proofs.Steps.{sidings_on}

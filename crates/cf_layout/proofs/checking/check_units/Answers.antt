@@ -1,4 +1,4 @@
--- A unit that is not refused is passed over.
+-- A unit that is not refused is skipped.
 use Rattle.std.proofs.Common.{◌∙◌}
 use Rattle.cf_layout.proofs.Passing.{none_told}
 use Rattle.cf_layout.proofs.Steps.{units_on}

@@ -1,4 +1,4 @@
--- What the tests but the last leave is laid out.
+-- Parts that pass all tests but the last are laid out.
 use Rattle.cf_layout.proofs.Passing.{none_told}
 use Rattle.cf_layout.proofs.Acceptance.{equips, limits_kept, small_kept}
 use Rattle.cf_layout.proofs.checking.lay_loosely.Goals as goal

@@ -1,4 +1,4 @@
--- What the tests leave is laid out.
+-- Parts that pass all tests are laid out.
 use Rattle.cf_layout.proofs.Passing.{none_told}
 use Rattle.cf_layout.proofs.Acceptance.{accepted, loosely_passed, limits_kept, small_kept}
 use Rattle.cf_layout.proofs.checking.lay_out.Goals as goal

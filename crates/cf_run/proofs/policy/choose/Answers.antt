@@ -1,4 +1,4 @@
--- By the count that stops the same is offered.
+-- The count that stops gives the same offers.
 use Rattle.cf_run.proofs.Stopped.{offers-offered}
 use Rattle.cf_run.proofs.policy.choose.Goals as goal
 

@@ -3,7 +3,7 @@ use Rattle.cf_run.specs.Policies.{most_moves}
 use Rattle.cf_run.specs.Sweeps.{IsSweeping, PicksFrom, SweepsTo, rule_at, silent}
 use Rattle.cf_run.proofs.sweep.sweep_kind.Given as goal
 
--- turns of the rule lead here, and what it picks next is looked for from here
+-- turns of the rule lead here, and its next pick is looked for from here
 abbrev pub invariant-loop-stage : goal.invariant-loop-stage
 invariant-loop-stage g l =
     record {

@@ -5,7 +5,7 @@ use Rattle.cf_run.specs.Policies.{most_moves}
 use Rattle.cf_run.specs.Sweeps.{IsSweeping, PicksFrom, SweepsTo, rule_at, silent}
 use Rattle.cf_run.proofs.turning_over.sweep_rounds.Given as goal
 
--- turns of the rule lead here, and what it picks next is looked for from here
+-- turns of the rule lead here, and its next pick is looked for from here
 abbrev pub invariant-loop-gone : goal.invariant-loop-gone
 invariant-loop-gone l =
     record {

@@ -4,7 +4,7 @@ use Rattle.elf_view.specs.Left.{segments_left}
 use Rattle.cli_files.specs.Image.{parts_of_segments}
 use Rattle.cli_files.proofs.parts.count_parts.Given as goal
 
--- what is counted and the parts that are left make the whole number
+-- the parts counted so far and those that are left make the whole number
 abbrev pub invariant-loop-segment : goal.invariant-loop-segment
 invariant-loop-segment l = record {
   whole : min (l.count + length (parts_of_segments (segments_left l.segment-iterator)))

@@ -6,7 +6,7 @@ use Rattle.cli_files.specs.Image.{hart_at_start}
 use Rattle.cli_time.proofs.Rows.{RowsPut}
 use Rattle.cli_time.proofs.comparing.time_each.Given as goal
 
--- the lines of the layouts so far are put
+-- the lines of the layouts so far are written
 abbrev pub invariant-loop-place : goal.invariant-loop-place
 invariant-loop-place g l =
     RowsPut (map layout_in (map string_bytes l.arguments)) l.options l.ready.delays (vec_items l.ready.layouts)

@@ -2,7 +2,7 @@ use Rattle.std.proofs.Common.{◌<◌, ◌≤◌, ℕ}
 use Rattle.std.specs.Prelude.{slice_index}
 use Rattle.cli_time.proofs.leasts.first_least.Given as goal
 
--- of the times so far it is the place of the first that is least
+-- the place of the first minimum of the times so far
 abbrev pub invariant-loop-place : goal.invariant-loop-place
 invariant-loop-place l =
     (l.least < l.place)

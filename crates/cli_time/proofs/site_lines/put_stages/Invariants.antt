@@ -4,7 +4,7 @@ use Rattle.cf_report.proofs.Puttings.{HasPut}
 use Rattle.cli_time.specs.SiteLines.{falling_stages, stage_use_line}
 use Rattle.cli_time.proofs.site_lines.put_stages.Given as goal
 
--- the lines of the stages so far are put
+-- the lines of the stages so far are written
 abbrev pub invariant-loop-above : goal.invariant-loop-above
 invariant-loop-above g l =
     HasPut (g.R.Sink.written l.initial.report) (g.R.Sink.written l.report) (g.R.Sink.faults l.initial.report)

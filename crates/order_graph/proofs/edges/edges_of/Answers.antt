@@ -1,4 +1,4 @@
--- One edge after another, in the memory as it was.
+-- One edge after another, with the memory as it was.
 use Rattle.std.proofs.Common.{◌∙◌}
 use Rattle.std.specs.Prelude.{IfNone}
 use Rattle.order_claims.specs.declared.wrong_kind.WrongKind.{WrongKind}

@@ -1,4 +1,4 @@
--- Where the move is not wrong, the next node may be.
+-- If the move is not wrong, the next node may be.
 use Rattle.order_graph.proofs.EdgeFacts.{there_told}
 use Rattle.order_graph.proofs.edges.fault_along.Goals as goal
 

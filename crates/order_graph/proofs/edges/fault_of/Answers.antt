@@ -1,4 +1,4 @@
--- The judge's answer is in which way the state is wrong.
+-- The judge's answer says in which way the state is wrong.
 use Rattle.std.proofs.Common.{subst, ◌∙◌}
 use Rattle.mem_regions.specs.Memory.{Memory}
 use Rattle.rv_machine.specs.Machine.{Machine}

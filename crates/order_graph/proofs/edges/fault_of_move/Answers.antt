@@ -1,4 +1,4 @@
--- The judge's answer is in which way the move is wrong.
+-- The judge's answer says in which way the move is wrong.
 use Rattle.std.proofs.Common.{◌≡◌, sym, subst}
 use Rattle.rv_machine.specs.Machine.{Machine}
 use Rattle.cf_semantics.specs.state.Layouts.{isa_of}

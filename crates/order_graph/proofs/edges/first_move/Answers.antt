@@ -1,4 +1,4 @@
--- No move leads on where none of them all does.
+-- No move leads on if none of all moves does.
 use Rattle.order_graph.proofs.Firsts.{none_found}
 use Rattle.order_graph.proofs.edges.first_move.Goals as goal
 

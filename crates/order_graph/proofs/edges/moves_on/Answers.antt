@@ -1,4 +1,4 @@
--- After the last move all that lead on were found.
+-- After the last move, all that lead on have been found.
 use Rattle.order_graph.proofs.Unready.{all_kept}
 use Rattle.order_graph.proofs.edges.moves_on.Goals as goal
 

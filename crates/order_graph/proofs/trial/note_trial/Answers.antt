@@ -1,4 +1,4 @@
--- What a trial keeps says what it must be.
+-- The stored parts of a trial are what they must be.
 use Rattle.std.proofs.Common.{subst}
 use Rattle.order_graph.specs.TrialParts.{IsSoundTrial}
 use Rattle.order_graph.proofs.Trials.{sound_parts}

@@ -1,4 +1,4 @@
--- The first test against the machine's place is the first against the machine.
+-- The first test that holds for the machine's place is the first for the machine.
 use Rattle.order_judging.proofs.Judged.{move_result}
 use Rattle.order_judging.proofs.judging.judge_move.Goals as goal
 

@@ -1,4 +1,4 @@
--- Lines are the same where their parts are.
+-- Lines are the same if their parts are.
 use Rattle.cf_semantics.specs.runs.Lines.{line_of, line_read}
 use Rattle.order_judging.proofs.LineParts.{whole, parts}
 use Rattle.order_judging.proofs.retiring.is_line_of.Goals as goal

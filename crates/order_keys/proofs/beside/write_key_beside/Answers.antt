@@ -1,4 +1,4 @@
--- The bytes before the stages, theirs, and those behind them.
+-- The bytes before the stages, those of the stages, and those after them.
 use Rattle.std.proofs.Common.{◌-◌, ap, length, rules, ◌∙◌}
 use Rattle.std.specs.Prelude.{slice_index}
 use Rattle.std.proofs.lemmas.List.{take_rest}

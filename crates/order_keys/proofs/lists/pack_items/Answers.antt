@@ -1,4 +1,4 @@
--- One item after the other is appended.
+-- One item after another is appended.
 use Rattle.order_keys.proofs.ListSteps.{more_packed, all_packed}
 use Rattle.order_keys.proofs.lists.pack_items.Goals as goal
 

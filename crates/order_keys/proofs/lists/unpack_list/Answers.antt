@@ -1,4 +1,4 @@
--- One item after the other is read.
+-- One item after another is read.
 use Rattle.order_keys.proofs.ListSteps.{read_first, read_more, read_all}
 use Rattle.order_keys.proofs.lists.unpack_list.Goals as goal
 

@@ -1,4 +1,4 @@
--- One value more.
+-- One more value.
 use Rattle.order_keys.proofs.PlacesRead.{one_value}
 use Rattle.order_keys.proofs.places.set_values.Goals as goal
 

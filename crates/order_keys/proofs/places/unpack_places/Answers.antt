@@ -1,4 +1,4 @@
--- One place more.
+-- One more place.
 use Rattle.order_keys.proofs.PlacesRead.{one_read}
 use Rattle.order_keys.proofs.places.unpack_places.Goals as goal
 

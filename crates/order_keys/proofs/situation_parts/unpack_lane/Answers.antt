@@ -1,4 +1,4 @@
--- One request after the other is read.
+-- One request after another is read.
 use Rattle.std.proofs.Common.{arith, ap, ◌+◌, [], ◌∷◌, length, ◌∙◌}
 use Rattle.std.proofs.lemmas.List.{length-append}
 use Rattle.order_keys.specs.Numbers.{unpacked_byte}

@@ -1,4 +1,4 @@
--- One siding after the other is read.
+-- One siding after another is read.
 use Rattle.std.proofs.Common.{ap, ◌∙◌, List, Option}
 use Rattle.cf_bind.specs.declared.cell.Op.{Op}
 use Rattle.order_keys.specs.Unpacked.{Unpacked}

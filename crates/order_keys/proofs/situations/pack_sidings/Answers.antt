@@ -1,4 +1,4 @@
--- One siding after the other is appended.
+-- One siding after another is appended.
 use Rattle.order_keys.specs.Compounds.{packed_option}
 use Rattle.order_keys.specs.Lists.{packed_list}
 use Rattle.order_keys.specs.Cells.{packed_op}

@@ -1,4 +1,4 @@
--- One stage after the other is read, and where it stands is noted.
+-- One stage after another is read, and its position is noted.
 use Rattle.std.proofs.Common.{◌≡◌, ◌-◌, ◌<◌, ◌++◌, ◌∷◌, [], List, ap, take, length, sym, subst, ◌∙◌}
 use Rattle.std.proofs.lemmas.List.{length-set, take_more_set}
 use Rattle.cf_bind.specs.declared.cell.Cell.{Cell}

@@ -5,7 +5,7 @@ use Rattle.order_keys.specs.Lists.{unpacked_list, unpacked_items}
 use Rattle.order_keys.specs.Stages.{lefts_from, lefts_of}
 use Rattle.order_keys.proofs.stages.unpack_stages.Given as goal
 
--- with the stages that are still to be read they are all, and so is where they stand
+-- with the stages that are still to be read they are all, and so are their positions
 abbrev pub invariant-loop-i : goal.invariant-loop-i
 invariant-loop-i l =
     let others = unpacked_items unpacked_cell (l.count - l.i) l.key in record {

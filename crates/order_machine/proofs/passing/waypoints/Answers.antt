@@ -1,4 +1,4 @@
--- One place more, and the machine one step further.
+-- One more place, and the machine one step further.
 use Rattle.std.proofs.Common.{◌≡◌, ◌∙◌, ◌+◌, ◌∷◌, [], inr, length, true, false, sym, ap, subst, arith, length-append}
 use Rattle.order_machine.specs.Waypoints.{AreWaypoints, IsWaypoint, is_end, ends_at_last, machine_of}
 use Rattle.order_machine.proofs.Passed.{further, last_place, more_places, waypoint_here}

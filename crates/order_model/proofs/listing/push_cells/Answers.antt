@@ -1,4 +1,4 @@
--- One cell more.
+-- One more cell.
 use Rattle.std.proofs.Common.{◌+◌, ◌∷◌, [], ap, arith, map}
 use Rattle.cf_bind.specs.declared.moves.Move.TheVariants.{Slide}
 use Rattle.cf_semantics.specs.moves.Candidates.{counted_from}

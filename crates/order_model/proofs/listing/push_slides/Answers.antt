@@ -1,4 +1,4 @@
--- One siding more.
+-- One more siding.
 use Rattle.std.proofs.Common.{◌≡◌, ◌∙◌, ◌<◌, ◌+◌, ◌-◌, ◌++◌, ap, arith, length, map, take}
 use Rattle.cf_layout.specs.Layout.{cells_of}
 use Rattle.cf_bind.specs.declared.moves.Move.TheVariants.{Slide}

@@ -1,4 +1,4 @@
--- One stage more.
+-- One more stage.
 use Rattle.std.proofs.Common.{◌∙◌, ◌+◌, ◌∷◌, [], ap, arith, map}
 use Rattle.cf_semantics.specs.moves.Candidates.{counted_from}
 use Rattle.order_model.specs.StageKinds.{kind_at}

@@ -1,4 +1,4 @@
--- The node below is another one, so the search goes on with the next of its chain.
+-- The node below is a different one, so the search goes on with the next of its chain.
 use Rattle.std.proofs.Common.{arith, ◌≡◌, ◌-◌, ◌<◌, sym, subst, ◌∙◌, true≢false, length, map, get_or}
 use Rattle.std.proofs.lemmas.List.{get_or_default, length-map}
 use Rattle.order_search.specs.Chains.{bucket_of}

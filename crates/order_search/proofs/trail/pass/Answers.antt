@@ -1,4 +1,4 @@
--- An edge without a fault leads to a node, which is added unless it is there.
+-- An edge without a fault leads to a node, which is added unless it is already there.
 use Rattle.std.proofs.Common.{sym, subst}
 use Rattle.order_search.specs.declared.trail.Passed.TheVariants.{Node}
 use Rattle.order_search.specs.Exploring.{GoesAlong}

@@ -6,7 +6,7 @@ use Rattle.cf_index.specs.Sites.{way_out}
 use Rattle.run_ledger.specs.Ledgers.{place_number}
 use Rattle.run_ledger.proofs.places.push_exits.Given as goal
 
--- those of the sidings so far are in the list
+-- the sites of the sidings so far are in the list
 abbrev pub invariant-loop-k : goal.invariant-loop-k
 invariant-loop-k l = record {
   places : l.places.items ≡ l.initial.places.items ++ map place_number (map (way_out l.layout)

@@ -58,7 +58,7 @@ on-goes turn e f = grind arith
 to-goes : (turn : Continuation) (index : ℕ) → turn ≡ To index → turn ≢ Stop
 to-goes turn index e f = grind arith
 
--- as many as have retired before the operation have retired since the start, or more
+-- the count before the operation is at least that at the start
 count-before : (m n : ℕ) → m + 256 ≤ n → m ≤ n - 256
 count-before m n le = omega (arith, le)
 

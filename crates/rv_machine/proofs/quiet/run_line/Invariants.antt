@@ -6,7 +6,7 @@ use Rattle.rv_machine.specs.Lines.{IsLineOf}
 use Rattle.rv_machine.specs.Quick.{HasSameCode, RetireAlone}
 use Rattle.rv_machine.proofs.quiet.run_line.Given as goal
 
--- as many have retired as will have at the end of the line, less those that are left there
+-- the number of retired instructions is the number at the end of the line minus those that are left in the line
 abbrev pub invariant-loop-spot : goal.invariant-loop-spot
 invariant-loop-spot l = record {
   goes : RetireAlone (record { pc = l.fn.from.pc; regs = l.initial.regs; mem = l.initial.mem; retired = l.fn.from.retired })

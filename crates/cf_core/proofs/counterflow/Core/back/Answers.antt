@@ -1,4 +1,5 @@
--- The processor is what it was before the move, and the words are kept up to date with the stages that the move had touched.
+-- The processor is as it was before the move, and the words are brought up to date at the stages that the move had
+-- touched.
 use Rattle.std.proofs.Common.{◌≡◌, ◌∙◌, None, ap, sym, subst}
 use Rattle.cf_semantics.specs.moves.Bars.{row_bar}
 use Rattle.cf_core.specs.Marks.{Within, marks_of, remarked, touched}

@@ -1,4 +1,4 @@
--- The words are kept up to date with the two stages that the move touches, or are what they were.
+-- The words are brought up to date at the two stages that the move touches, or are unchanged.
 use Rattle.std.proofs.Common.{◌≡◌, ◌∙◌, None, subst, sym}
 use Rattle.rv_machine.specs.Streams.{streams_of}
 use Rattle.cf_semantics.specs.moves.Bars.{bar}

@@ -1,4 +1,4 @@
--- The parts of a new processor are those in which nothing stands, and its words are 0.
+-- The parts of a new processor are empty, and its words are 0.
 use Rattle.std.proofs.Common.{ap, ◌∙◌, ℕ}
 use Rattle.std.specs.Prelude.{replicate}
 use Rattle.cf_ends.specs.Ends.{PipeEnds}

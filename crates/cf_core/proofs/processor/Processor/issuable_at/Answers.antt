@@ -1,4 +1,4 @@
--- The lane has room for the requests of the instruction, or it has not.
+-- The lane either has room for the requests of the instruction or it does not.
 use Rattle.std.proofs.Common.{◌+◌, ◌<◌, ◌≤◌, ◌∙◌, ap, length, arith}
 use Rattle.cf_bind.specs.declared.passenger.Guess.TheVariants as guess
 use Rattle.cf_semantics.specs.state.Passengers.{requests}

@@ -1,4 +1,4 @@
--- What stands at the end of Memory's siding is a load or a store.
+-- The operation at the end of Memory's siding is a load or a store.
 use Rattle.std.proofs.Common.{◌∙◌, sym}
 use Rattle.cf_core.proofs.OldOps.{port-op}
 use Rattle.cf_core.proofs.processor.Processor.old_number.Goals as goal

@@ -1,4 +1,4 @@
--- The cells that the move writes are those of the siding of its instruction, of a slide, or of the port.
+-- The cells that the move writes are those of its instruction's siding, of a slide, or of the port.
 use Rattle.std.proofs.Common.{◌≡◌, ◌∙◌, None, subst, sym, arith}
 use Rattle.cf_bind.specs.declared.moves.Move.{Move}
 use Rattle.cf_semantics.specs.moves.Bars.{row_bar}

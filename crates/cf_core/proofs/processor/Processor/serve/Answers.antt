@@ -1,4 +1,5 @@
--- FENCE.I asks nothing of the outside. What the environment answered is what Serve makes of it; a call that asks neither input nor output leaves both.
+-- FENCE.I asks nothing of the outside. What the environment answered is what Serve makes of it; a call that asks
+-- neither input nor output leaves both unchanged.
 use Rattle.std.proofs.Common.{◌≡◌, ℕ, List, Some, false, ap, refl, subst, sym, arith}
 use Rattle.rv_inst.specs.declared.instruction.Instr.TheVariants.{Ecall}
 use Rattle.rv_machine.specs.Acts.{Serves}

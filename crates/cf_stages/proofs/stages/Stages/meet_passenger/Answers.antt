@@ -1,4 +1,4 @@
--- The instruction of a stage after it has met a result, where it is.
+-- The instruction of a stage after it has met a result, in its place.
 use Rattle.std.proofs.Common.{◌∙◌, ap, List, sym, subst, ◌-◌, length, length-set}
 use Rattle.std.specs.Prelude.{IsSome}
 use Rattle.cf_bind.specs.declared.cell.Cell.{Cell}

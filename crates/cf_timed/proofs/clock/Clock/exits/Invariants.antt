@@ -7,7 +7,7 @@ use Rattle.cf_timed.specs.Clocks.{time_at}
 use Rattle.cf_timed.specs.Times.{greatest}
 use Rattle.cf_timed.proofs.clock.Clock.exits.Given as goal
 
--- the greatest time of those so far
+-- the maximum time of those so far
 abbrev pub invariant-loop-k : goal.invariant-loop-k
 invariant-loop-k l = l.most ≡ greatest (map (time_at l.self) (map (way_out l.self.plan) (filter (λ k. recover_stage l.self.plan k == l.i)
     (counted_from 0 l.k))))

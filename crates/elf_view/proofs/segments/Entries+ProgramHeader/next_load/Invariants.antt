@@ -2,7 +2,7 @@ use Rattle.std.proofs.Common.{◌≡◌}
 use Rattle.elf_view.specs.Segments.{loads_in}
 use Rattle.elf_view.proofs.segments.Entries+ProgramHeader.next_load.Given as goal
 
--- no header that was passed over is that of a segment which is loaded
+-- no header that was skipped is that of a loaded segment
 abbrev pub invariant-loop-header : goal.invariant-loop-header
 invariant-loop-header l = record {
   can : (goal.iterator-loop-header).can_next l.self × (goal.iterator-loop-header).is_finite l.self;

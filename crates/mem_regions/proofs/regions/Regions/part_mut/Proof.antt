@@ -1,5 +1,5 @@
--- A walk by hand, since no proof is generated where a slice is lent in an `Option`: `is_writable` looks at the regions,
--- and then nothing is lent, or what `writable` lends is passed on.
+-- A proof by hand, since no proof is generated for a slice that is borrowed in an `Option`: `is_writable` reads the
+-- regions, and then nothing is borrowed, or the borrow of `writable` is passed on.
 use Rattle.std.proofs.Common.{◌≡◌, ℕ, List, [], ◌∷◌, length, Bool, Some, None, IsTrue, refl, sym, ap, lit<, w32, MutBor}
 use Rattle.std.proofs.raw_atomic.Walks.{proved}
 use Rattle.std.proofs.mem.Facts.{says_two}
@@ -159,7 +159,7 @@ part_mut_spec 𝓤 𝓛 𝓜 𝓡 wired =
     (fact 𝓤 (length r.now ≡ len)))))) (id⊢ 𝓤 _) $ await ! tt $ pick ! (λ r.
     split ! $ move ! (1 ∷ []) $ pick ! (λ ws. split ! $ drop ! $ split3 ! $ move ! (1 ∷ []) $ heard ! _ (λ e. move ! (1 ∷ []) $ heard ! _ (λ long.
     move ! (1 ∷ []) $ split ! $ split ! $ move ! (2 ∷ 0 ∷ 3 ∷ []) $
-    -- [what is lent; the token of κ; the way back; nothing]
+    -- [the borrow; the token of κ; the way back; nothing]
     peeks ! L (Is L) (shows 𝓛 L) r (v' ∷ []) (λ is. lands_as ! (ap only is.0.0) refl (tt, (tt, (record { fits = is.0.1.0 }, tt))) $
     rewrite ! 0 (λ (us : List Val). ‵ (L.own_val r us)) is.0.0 refl $
     sets ! (agg ! (and_then ! (lit ! tt) (and_then ! (get ! refl) (no_more !)))) refl

@@ -1,4 +1,4 @@
--- A meeting is counted by what is in its stage before and after it.
+-- A meeting is counted by the contents of its stage before and after it.
 use Rattle.order_graph.proofs.Counted.{meeting_counted}
 use Rattle.order_graph.proofs.found.OrderCounts.with.Goals as goal
 

@@ -1,4 +1,4 @@
--- What Serve writes is what the environment writes where it answers the instruction of the highest stage.
+-- What Serve writes is what the environment writes when it answers the instruction of the highest stage.
 use Rattle.std.proofs.Common.{◌≡◌, ◌∙◌, [], Some, sym, ap}
 use Rattle.rv_inst.specs.declared.instruction.Instr.{Instr}
 use Rattle.cf_semantics.specs.moves.Instructions.{serve_of}

@@ -1,4 +1,4 @@
--- An instruction that takes its operation back has an answer, or it computes.
+-- An instruction that takes its operation back has an answer, or is one that computes.
 use Rattle.std.proofs.Common.{sym, ap, ◌∙◌}
 use Rattle.cf_layout.specs.Layout.{siding_of}
 use Rattle.cf_semantics.specs.moves.Bars.{last_op}

@@ -1,4 +1,4 @@
--- The operation of a cell is in the next one.
+-- The operation of a cell moves to the next one.
 use Rattle.std.proofs.Common.{sym, ◌∙◌}
 use Rattle.order_model.proofs.Accessed.{slides}
 use Rattle.order_model.proofs.situation.Situation.slide.Goals as goal

@@ -1,4 +1,4 @@
--- The node is sought in its bucket, and is put there with its hash where it is new.
+-- The node is searched for in its bucket, and is added there with its hash if it is new.
 use Rattle.std.proofs.Common.{◌≡◌, ap, length, rules, ◌∙◌}
 use Rattle.order_search.specs.Chains.{AreChained, bucket_of, bucket_with}
 use Rattle.order_search.proofs.Chaining.{node_chained}

@@ -4,7 +4,7 @@ use Rattle.run_scripts.specs.Limits.{most_script}
 use Rattle.run_scripts.specs.Scripts.{told_from}
 use Rattle.run_scripts.proofs.script.Script.next_line.Given as goal
 
--- what the lines that are left say is what the script says
+-- what the remaining lines say is what the script says
 abbrev pub invariant-loop-self : goal.invariant-loop-self
 invariant-loop-self l = record {
   same : told_from l.self-inside.above (text_lines l.self-inside.rest.now) ≡ l.fn.self;

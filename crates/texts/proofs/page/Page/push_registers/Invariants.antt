@@ -2,7 +2,7 @@ use Rattle.std.proofs.Common.{◌≡◌, ◌+◌, ◌*◌, ◌++◌, drop, lengt
 use Rattle.texts.specs.Lines.{registers_from}
 use Rattle.texts.proofs.page.Page.push_registers.Given as goal
 
--- what is written and the entries of the registers that are left make the whole text
+-- the text written so far and the entries of the remaining registers make up the whole text
 abbrev pub invariant-loop-word : goal.invariant-loop-word
 invariant-loop-word l = record {
   text : l.self ++ registers_from l.register (drop l.word-index l.regs)
