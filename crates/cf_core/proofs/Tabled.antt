@@ -9,8 +9,8 @@ use Rattle.cf_layout.proofs.Facts.{siding_found}
 use Rattle.cf_stages.specs.Words.{flag, with_bit, word_of}
 use Rattle.cf_stages.proofs.Bits.{word-bit, word-bit-above, word-small}
 use Rattle.cf_stages.proofs.Carries.{bit-kept, set-adds}
-use Rattle.cf_core.specs.Stations.{IsSite, home_site, index_of, site_of, station_of, stations_of}
-use Rattle.cf_core.specs.declared.stations.Site.{Site}
+use Rattle.cf_core.specs.Stations.{AreSidingStages, home_site, index_of, site_of, station_of, stations_of}
+use Rattle.cf_core.specs.declared.stations.SidingStages.{SidingStages}
 use Rattle.cf_core.specs.declared.stations.Station.{Station}
 
 -- a word for one stage more
@@ -58,7 +58,7 @@ station-length plan = refl
 pub ruleset tabled = (station-length)
 
 -- a siding in the table is that of the class
-site_there : (plan : Plan) (c : Class) (site : Site) (o : Option ℕ) → siding_of plan c ≡ o → home_site plan o ≡ Some site → IsSite plan c site
+site_there : (plan : Plan) (c : Class) (site : SidingStages) (o : Option ℕ) → siding_of plan c ≡ o → home_site plan o ≡ Some site → AreSidingStages plan c site
 site_there plan c site None e h = absurd (cc)
 site_there plan c site (Some k) e h =
     let is : site_of plan k ≡ site = cc in
@@ -68,7 +68,7 @@ no_site : (plan : Plan) (c : Class) (o : Option ℕ) → siding_of plan c ≡ o 
 no_site plan c None e h = e
 no_site plan c (Some k) e h = absurd (cc)
 
-pub site-there : (plan : Plan) (c : Class) (site : Site) → (station_of plan c).siding ≡ Some site → IsSite plan c site
+pub site-there : (plan : Plan) (c : Class) (site : SidingStages) → (station_of plan c).siding ≡ Some site → AreSidingStages plan c site
 unfolding station_of
 site-there plan c site h = site_there plan c site (siding_of plan c) refl h
 
@@ -85,7 +85,7 @@ pub station-last : (plan : Plan) (c : Class) (s : Station) → s ≡ station_of 
 unfolding station_of
 station-last plan c s e = ap (λ (t : Station). t.last) e
 
-pub found-site : (plan : Plan) (c : Class) (s : Station) (site : Site) → s ≡ station_of plan c → s.siding ≡ Some site → IsSite plan c site
+pub found-site : (plan : Plan) (c : Class) (s : Station) (site : SidingStages) → s ≡ station_of plan c → s.siding ≡ Some site → AreSidingStages plan c site
 found-site plan c s site e h = site-there plan c site (sym (ap (λ (t : Station). t.siding) e) ∙ h)
 
 pub found-none : (plan : Plan) (c : Class) (s : Station) → s ≡ station_of plan c → s.siding ≡ None → siding_of plan c ≡ None

@@ -5,15 +5,15 @@ use Rattle.rv_inst.specs.declared.classes.Class.{Class}
 use Rattle.rv_inst.specs.declared.classes.Class.TheVariants.{Add, Logic, Shift, Compare, Branch, Jump, Memory, Serial, Free, Mul, Div}
 use Rattle.cf_layout.specs.Layout.{Plan, last_stage, launch_stage, recover_stage, siding_of, unit_at}
 use Rattle.cf_stages.specs.Words.{word_of}
-use Rattle.cf_core.specs.declared.stations.Site.{Site}
+use Rattle.cf_core.specs.declared.stations.SidingStages.{SidingStages}
 use Rattle.cf_core.specs.declared.stations.Station.{Station}
 
 -- a siding by its number
-abbrev pub site_of : Plan → ℕ → Site
+abbrev pub site_of : Plan → ℕ → SidingStages
 site_of plan k = record { number = k; launch = launch_stage plan k; recover = recover_stage plan k }
 
 -- the siding of a class
-abbrev pub home_site : Plan → Option ℕ → Option Site
+abbrev pub home_site : Plan → Option ℕ → Option SidingStages
 home_site plan None = None
 home_site plan (Some k) = Some (site_of plan k)
 
@@ -46,7 +46,7 @@ stations_of plan =
     ∷ station_of plan Memory ∷ station_of plan Serial ∷ station_of plan Free ∷ station_of plan Mul ∷ station_of plan Div ∷ []
 
 -- a siding is that of the class
-pub record IsSite (plan : Plan) (c : Class) (site : Site) : Type 0 where
+pub record AreSidingStages (plan : Plan) (c : Class) (site : SidingStages) : Type 0 where
   pub siding : siding_of plan c ≡ Some site.number
   pub inside : site.number < length plan.sidings
   pub launch : site.launch ≡ launch_stage plan site.number

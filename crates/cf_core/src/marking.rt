@@ -7,12 +7,12 @@ ghost use Rattle.cf_stages.specs.Changes.{passenger_at};
 ghost use Rattle.cf_core.specs.Marks.{mark_at, marked, Within, remarked as remarked_by};
 ghost use Rattle.cf_core.specs.Processors.{IsProcessor};
 ghost use Rattle.cf_core.specs.Riders.{StandsBeside, is_idle};
-ghost use Rattle.cf_core.specs.Stations.{IsSite, station_of};
+ghost use Rattle.cf_core.specs.Stations.{AreSidingStages, station_of};
 
 use crate::marks::{Marks, StageMark};
 use crate::processor::Processor;
 use crate::riding::is_idle;
-use crate::stations::{Site, Station};
+use crate::stations::{SidingStages, Station};
 use crate::touching::Touched;
 use cf_bind::Passenger;
 use cf_passengers::kind;
@@ -43,10 +43,16 @@ impl Processor {
     // It stays a call: most instructions are of a class with units.
     #[inline(never)]
     #[tactic(auto, using(crate::proofs::Rides::owed, crate::proofs::Tabled::fields), unfolding(crate::specs::Marks::mark_at))]
-    fn mark_at_siding(&self, passenger: &Passenger, class: Class, site: Site, i: u32) -> StageMark
+    fn mark_at_siding(
+        &self,
+        passenger: &Passenger,
+        class: Class,
+        site: SidingStages,
+        i: u32,
+    ) -> StageMark
         requires facts { IsProcessor self.now.plan self.now.state }
         requires stands { StandsBeside self.now.plan self.now.state passenger.now class site.number i }
-        requires site { IsSite self.now.plan class site }
+        requires site { AreSidingStages self.now.plan class site }
         ensures { result ≡ mark_at self.now.plan self.now.state i }
     {
         StageMark {

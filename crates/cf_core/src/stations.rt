@@ -14,7 +14,7 @@ use rv_inst::Class;
 
 /// A siding: its number, the stage from which it launches, and the one at which it recovers.
 #[derive(Clone, Copy)]
-pub(crate) struct Site {
+pub(crate) struct SidingStages {
     pub(crate) number: u32,
     pub(crate) launch: u32,
     pub(crate) recover: u32,
@@ -30,7 +30,7 @@ pub(crate) struct Station {
     pub(crate) last: u32,
 
     /// The siding of the class, if it has one.
-    pub(crate) siding: Option<Site>,
+    pub(crate) siding: Option<SidingStages>,
 }
 
 /// The index of the class in the table.
@@ -67,11 +67,11 @@ fn units_of(layout: &Layout, class: Class) -> u32
 }
 
 /// The siding of the class, if it has one.
-fn site_of(layout: &Layout, class: Class) -> Option<Site>
+fn site_of(layout: &Layout, class: Class) -> Option<SidingStages>
     ensures { result ≡ home_site layout.now (siding_of_class layout.now class) }
 {
     match layout.siding_of(class) {
-        Some(number) => Some(Site {
+        Some(number) => Some(SidingStages {
             number,
             launch: layout.launch_stage(number),
             recover: layout.recover_stage(number),

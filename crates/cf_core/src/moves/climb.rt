@@ -8,14 +8,14 @@ ghost use Rattle.cf_semantics.specs.state.Passengers.{kind as kind_of_passenger}
 ghost use Rattle.cf_stages.specs.Changes.{passenger_at};
 ghost use Rattle.cf_core.specs.Masks.{stops_there};
 ghost use Rattle.cf_core.specs.Processors.{IsProcessor, after_move};
-ghost use Rattle.cf_core.specs.Stations.{IsSite};
+ghost use Rattle.cf_core.specs.Stations.{AreSidingStages};
 
 use crate::moves::launch::is_to_launch;
 use crate::moves::recover::is_to_recover;
 use crate::processor::Processor;
 use crate::riding::is_undone;
 use crate::rows::first_of;
-use crate::stations::Site;
+use crate::stations::SidingStages;
 use cf_bind::{Bar, Passenger};
 use cf_passengers::stops_at;
 
@@ -56,9 +56,9 @@ impl Processor {
     /// Whether the instruction must not climb on yet, because its siding launches or recovers here.
     #[inline(always)]
     #[tactic(auto, using(crate::proofs::Rides::stops_siding))]
-    pub(crate) fn stops_at_siding(&self, passenger: &Passenger, site: Site, i: u32) -> bool
+    pub(crate) fn stops_at_siding(&self, passenger: &Passenger, site: SidingStages, i: u32) -> bool
         requires here { passenger_at self.now.state.cells i ≡ Some passenger.now }
-        requires site { IsSite self.now.plan (kind_of_passenger passenger.now) site }
+        requires site { AreSidingStages self.now.plan (kind_of_passenger passenger.now) site }
         ensures { result ≡ stops_there self.now.plan self.now.state i }
     {
         is_to_recover(passenger, site, i) || is_to_launch(passenger, site, i)

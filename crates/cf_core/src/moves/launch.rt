@@ -11,20 +11,20 @@ ghost use Rattle.cf_stages.specs.Changes.{is_full_at};
 ghost use Rattle.cf_core.specs.Marks.{row_allows};
 ghost use Rattle.cf_core.specs.Processors.{IsProcessor, after_move};
 ghost use Rattle.cf_core.specs.Riders.{is_undone as is_not_done, StandsBeside};
-ghost use Rattle.cf_core.specs.Stations.{IsSite};
+ghost use Rattle.cf_core.specs.Stations.{AreSidingStages};
 
 use crate::processor::Processor;
 use crate::riding::{has_sources, is_undone};
 use crate::rows::first_of;
 use crate::siding_ends::is_memory;
-use crate::stations::Site;
+use crate::stations::SidingStages;
 use cf_bind::{Bar, Passenger};
 use cf_passengers::{first_missing, kind, launch_trap, launches, operation, trapped};
 use rv_inst::Class;
 
 /// Whether the siding launches from this stage, and the instruction is yet to be launched.
 #[inline(always)]
-pub(crate) fn is_to_launch(passenger: &Passenger, site: Site, i: u32) -> bool
+pub(crate) fn is_to_launch(passenger: &Passenger, site: SidingStages, i: u32) -> bool
     ensures { result ≡ (is_not_done passenger.now && (not passenger.now.launched && (site.launch == i))) }
 {
     is_undone(passenger) && !passenger.launched && site.launch == i
@@ -97,10 +97,16 @@ impl Processor {
     /// Whether no test in the row of Launch holds. The siding is that of the class of the instruction.
     #[inline(always)]
     #[tactic(auto, using(crate::proofs::Rides::launch_free))]
-    pub(crate) fn launches(&self, passenger: &Passenger, class: Class, site: Site, i: u32) -> bool
+    pub(crate) fn launches(
+        &self,
+        passenger: &Passenger,
+        class: Class,
+        site: SidingStages,
+        i: u32,
+    ) -> bool
         requires facts { IsProcessor self.now.plan self.now.state }
         requires stands { StandsBeside self.now.plan self.now.state passenger.now class site.number i }
-        requires site { IsSite self.now.plan class site }
+        requires site { AreSidingStages self.now.plan class site }
         ensures { result ≡ row_allows self.now.plan self.now.state (mv.Launch i) }
     {
         is_to_launch(passenger, site, i)

@@ -8,19 +8,19 @@ ghost use Rattle.cf_stages.specs.Changes.{passenger_at};
 ghost use Rattle.cf_core.specs.Marks.{row_allows};
 ghost use Rattle.cf_core.specs.Processors.{IsProcessor, after_move};
 ghost use Rattle.cf_core.specs.Riders.{is_out as is_beside};
-ghost use Rattle.cf_core.specs.Stations.{IsSite};
+ghost use Rattle.cf_core.specs.Stations.{AreSidingStages};
 
 use crate::processor::Processor;
 use crate::riding::is_out;
 use crate::rows::first_of;
 use crate::siding_ends::is_memory;
-use crate::stations::Site;
+use crate::stations::SidingStages;
 use cf_bind::{Bar, Passenger};
 use cf_passengers::{back_in, kind, recovers};
 
 /// Whether the siding recovers at this stage, and the operation of the instruction is yet to come back.
 #[inline(always)]
-pub(crate) fn is_to_recover(passenger: &Passenger, site: Site, i: u32) -> bool
+pub(crate) fn is_to_recover(passenger: &Passenger, site: SidingStages, i: u32) -> bool
     ensures { result ≡ (is_beside passenger.now && (site.recover == i)) }
 {
     is_out(passenger) && site.recover == i
@@ -67,10 +67,10 @@ impl Processor {
     /// Whether no test in the row of Recover holds. The siding is that of the class of the instruction.
     #[inline(always)]
     #[tactic(auto, using(crate::proofs::Rides::recover_free))]
-    pub(crate) fn recovers(&self, passenger: &Passenger, site: Site, i: u32) -> bool
+    pub(crate) fn recovers(&self, passenger: &Passenger, site: SidingStages, i: u32) -> bool
         requires facts { IsProcessor self.now.plan self.now.state }
         requires here { passenger_at self.now.state.cells i ≡ Some passenger.now }
-        requires site { IsSite self.now.plan (kind_of_passenger passenger.now) site }
+        requires site { AreSidingStages self.now.plan (kind_of_passenger passenger.now) site }
         ensures { result ≡ row_allows self.now.plan self.now.state (mv.Recover i) }
     {
         is_to_recover(passenger, site, i) && self.return_bar(passenger).is_none()
