@@ -48,8 +48,7 @@ impl Drawn {
     }
 
     /// Picks one of the moves that a processor offers, from the list of all.
-    // The list is rarely needed, and is then made in a call, so that the pick from a word is part of a run's loop.
-    #[inline(never)]
+    #[inline(always)]
     fn choose_of_all(&mut self, core: &Core, pace: &Pace) -> Move
         requires { 0 < length (offers pace.now core.now.plan core.now.state) }
         ensures choice { Some result ≡ slice_get (offers pace.now core.now.plan core.now.state)
@@ -59,18 +58,6 @@ impl Drawn {
         let candidates = Candidates::of(core, pace.rule(), pace.held());
         let place = self.pick(&candidates);
         candidates.pick(place)
-    }
-
-    /// The same.
-    // The answer of the call has a place in memory here, which is read only where the call is made.
-    #[inline(always)]
-    fn choose_by_call(&mut self, core: &Core, pace: &Pace) -> Move
-        requires { 0 < length (offers pace.now core.now.plan core.now.state) }
-        ensures choice { Some result ≡ slice_get (offers pace.now core.now.plan core.now.state)
-            (drawn_pick self.old (offers pace.now core.now.plan core.now.state)) }
-        ensures onward { self.new ≡ drawn_on self.old }
-    {
-        self.choose_of_all(core, pace)
     }
 }
 
@@ -88,7 +75,7 @@ impl Policy for Drawn {
     fn choose(&mut self, core: &Core, _candidates: &mut Candidates, pace: &Pace) -> Move {
         match PackedCandidates::of(core, pace.rule(), pace.held()) {
             Some(packed) => packed.pick(self.draw() as usize % packed.len()),
-            None => self.choose_by_call(core, pace),
+            None => self.choose_of_all(core, pace),
         }
     }
 }
