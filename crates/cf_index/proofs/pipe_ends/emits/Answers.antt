@@ -8,7 +8,7 @@ pub returns-then-lane_len-ne0 : goal.returns-then-lane_len-ne0
 returns-then-lane_len-ne0 c =
     let plan = c.args.core.now.plan in
     let s = c.args.core.now.state in
-    let some : 1 ≤ plan.stages = omega (arith, c.stages-stages.ensures.some, c.stages-stages.ensures.stages) in
+    let some : 1 ≤ plan.stages = c.know_stages.ensures.some in
     let count = c.lane_len.ensures.count in
     let other = c.if-lane_len-ne0.true in
     let asked : nat_lt 0 (length s.lane) ≡ true = grind (arith, nat_tests) in
@@ -19,7 +19,7 @@ pub returns-else-lane_len-ne0 : goal.returns-else-lane_len-ne0
 returns-else-lane_len-ne0 c =
     let plan = c.args.core.now.plan in
     let s = c.args.core.now.state in
-    let some : 1 ≤ plan.stages = omega (arith, c.stages-stages.ensures.some, c.stages-stages.ensures.stages) in
+    let some : 1 ≤ plan.stages = c.know_stages.ensures.some in
     let count = c.lane_len.ensures.count in
     let none = c.if-lane_len-ne0.false in
     let asked : nat_lt 0 (length s.lane) ≡ false = grind (arith, nat_tests) in

@@ -15,7 +15,7 @@ pub returns-else-has_top-clause-moves : goal.returns-else-has_top-clause-moves
 returns-else-has_top-clause-moves c =
     let plan = c.args.core.now.plan in
     let s = c.args.core.now.state in
-    let some : 1 ≤ plan.stages = omega (arith, c.stages-stages.ensures.some, c.stages-stages.ensures.stages) in
+    let some : 1 ≤ plan.stages = c.know_stages.ensures.some in
     let off = top_free plan s c.args.masks.now c.requires.on c.requires.masks (c.know_stages.ensures.cells) some
     (sym c.has_top.ensures ∙ c.if-has_top.false) in
     let exit = bool_byte c.exits-exit.result in
