@@ -33,8 +33,8 @@ use std::alloc::{AllocError, Global};
 use std::marker::Model;
 
 /// A counterflow pipeline processor (Sproull, Sutherland and Molnar, "Counterflow Pipeline Processor Architecture", 1994),
-/// seen as its layout and its state. It changes only by `make`, `make_inside`, `step` and `back`: one local move is made, or taken back.
-/// No call but `new` takes memory.
+/// seen as its layout and its state. It changes only by `make`, `make_inside`, `step` and `back`: one local move is made, or
+/// taken back. No call but `new` takes memory.
 ///
 /// It holds of every processor that each instruction in the pipes is one of its instruction set, or ends the program if
 /// none could be read; that each operation in a siding is of a class of the siding; and that memory permits each load

@@ -1,7 +1,9 @@
 //! Whether anything is in the processor.
 
+ghost use Rattle.std.specs.List.{list_any};
 ghost use Rattle.std.specs.Prelude.{◌≡◌};
 ghost use Rattle.cf_semantics.specs.state.Drained.{is_drained, is_empty};
+ghost use Rattle.cf_semantics.specs.state.Options.{is_some};
 
 use crate::counterflow::Core;
 use crate::processor::Processor;
@@ -18,6 +20,14 @@ impl Processor {
 }
 
 impl Core {
+    /// Whether any siding holds an operation. Each siding counts its own, so that no cell is looked at.
+    #[inline(always)]
+    pub fn holds_operations(&self) -> bool
+        ensures { result ≡ list_any (list_any is_some) self.now.state.sidings }
+    {
+        self.processor.sidings.hold_some()
+    }
+
     /// Whether there is no instruction, result, request or operation anywhere.
     #[inline(always)]
     #[tactic(auto, unfolding(cf_semantics::specs::state::Drained::is_drained))]

@@ -26,40 +26,22 @@ use Rattle.cf_index.specs.Allowed.{all_leaving, is_allowed}
 use Rattle.cf_index.specs.PickedFrom.{from_leave, outward_on}
 use Rattle.cf_index.specs.Ranks.{is_past}
 
--- what holds below a number and at it holds up to it
-pub up_to : (P : ℕ → Type 0) (k : ℕ) → ((j : ℕ) → j < k → P j) → P k → (j : ℕ) → j < k + 1 → P j
-up_to P k before here j below = by (nat_lt j k) refl
-  where
-    by : (b : Bool) → nat_lt j k ≡ b → P j
-    by true e = before j (grind (arith, nat_tests, e))
-    by false e = let same : k ≡ j = grind (arith, nat_tests, e, below) in subst P same here
-
--- a siding that does not exist has no operation
-pub none_beyond : (s : State) (k : ℕ) → length s.sidings ≤ k → list_any is_some (siding_at s k) ≡ false
-none_beyond s k past = of s.sidings k past
-  where
-    of : (sidings : List (List (Option Op))) (k : ℕ) → length sidings ≤ k → list_any is_some (on (slice_get sidings k) [] (λ ops. ops)) ≡ false
-    of [] k past = refl
-    of (ops ∷ sidings) zero past = absurd (omega (arith, past))
-    of (ops ∷ sidings) (suc k) past = of sidings k (omega (arith, past))
-
--- so if each siding that exists has none, all have none
-pub empty_beyond : (plan : Plan) (s : State) (n : ℕ) → IsProcessor plan s → length plan.sidings ≤ n →
-    ((j : ℕ) → j < n → list_any is_some (siding_at s j) ≡ false) → (k : ℕ) → list_any is_some (siding_at s k) ≡ false
-empty_beyond plan s n facts all each k = by (nat_lt k n) refl
-  where
-    same : length s.sidings ≡ length plan.sidings
-    same = sym (length-map s.sidings length) ∙ ap length facts.sidings ∙ length-map plan.sidings (λ (siding : SidingPlan). siding.cells)
-
-    by : (b : Bool) → nat_lt k n ≡ b → list_any is_some (siding_at s k) ≡ false
-    by true e = each k (grind (arith, nat_tests, e))
-    by false e = none_beyond s k (grind (arith, nat_tests, e, all, same))
-
--- nothing is in its last cell, nor in any other
+-- neither of two tests holds if not one of them does
 both_false : (a b : Bool) → (a || b) ≡ false → (a ≡ false) × (b ≡ false)
 both_false true b e = absurd (cc)
 both_false false b e = (refl, e)
 
+-- if no siding has an operation, the one with a number has none, also if there is no such siding
+pub all_empty : (s : State) → list_any (list_any is_some) s.sidings ≡ false → (k : ℕ) → list_any is_some (siding_at s k) ≡ false
+all_empty s none k = of s.sidings k none
+  where
+    of : (sidings : List (List (Option Op))) (k : ℕ) → list_any (list_any is_some) sidings ≡ false →
+        list_any is_some (on (slice_get sidings k) [] (λ ops. ops)) ≡ false
+    of [] k none = refl
+    of (ops ∷ sidings) zero none = (both_false (list_any is_some ops) (list_any (list_any is_some) sidings) none).0
+    of (ops ∷ sidings) (suc k) none = of sidings k (both_false (list_any is_some ops) (list_any (list_any is_some) sidings) none).1
+
+-- nothing is in its last cell, nor in any other
 none_there : (o : Option Op) → is_some o ≡ false → o ≡ None
 none_there None e = refl
 none_there (Some op) e = absurd (cc)

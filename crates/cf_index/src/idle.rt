@@ -9,32 +9,20 @@ ghost use Rattle.cf_index.specs.Ranks.{is_past};
 
 use crate::candidates::Candidates;
 use crate::rank::Rank;
-use cf_bind::Op;
 use cf_core::Core;
-
-/// Whether one of the cells has an operation.
-#[inline(always)]
-fn holds_some(cells: &[Option<Op>]) -> bool
-    ensures { result ≡ list_any is_some cells.now }
-{
-    cells.iter().any(|op| op.is_some())
-}
 
 /// Whether no siding has an operation.
 #[inline(always)]
+#[tactic(auto, using(crate::proofs::EmptySidings::all_empty))]
 pub(crate) fn are_empty(core: &Core) -> bool
     ensures { result ≡ true → (k : ℕ) → list_any is_some (siding_at core.now.state k) ≡ false }
 {
-    for k in 0..core.layout().siding_count() {
-        if holds_some(core.siding(k)) {
-            return false;
-        }
-    }
-    true
+    !core.holds_operations()
 }
 
 impl Candidates {
-    /// Whether no siding has an operation. Then the first move after the rank, of those after the stages, is Leave, Exit or Serve.
+    /// Whether no siding has an operation. Then the first move after the rank, of those after the stages, is Leave, Exit or
+    /// Serve.
     #[inline(always)]
     #[tactic(auto, using(crate::proofs::EmptySidings::idle_outward))]
     pub fn sidings_empty(core: &Core, last: Rank) -> bool
