@@ -40,8 +40,7 @@ impl Processor {
     }
 
     /// The marks of the stage, whose instruction is of a class with this siding.
-    // It stays a call: most instructions are of a class with units.
-    #[inline(never)]
+    #[inline(always)]
     #[tactic(auto, using(crate::proofs::Rides::owed, crate::proofs::Tabled::fields), unfolding(crate::specs::Marks::mark_at))]
     fn mark_at_siding(
         &self,
@@ -65,7 +64,8 @@ impl Processor {
     }
 
     /// The marks of the stage that has this instruction.
-    #[inline(always)]
+    // It stays a call: with it a move would be too large to become a part of the loop of a run.
+    #[inline(never)]
     #[tactic(auto, using(crate::proofs::Tabled::sites))]
     pub(crate) fn mark_of(&self, passenger: &Passenger, i: u32) -> StageMark
         requires above { 0 < i }
