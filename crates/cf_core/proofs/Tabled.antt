@@ -16,7 +16,8 @@ use Rattle.cf_core.specs.declared.stations.Station.{Station}
 -- a word for one stage more
 word_next : (test : ℕ → Bool) (n : ℕ) (b : Bool) → n < 32 → with_bit (word_of test n) n b ≡ flag b * 2 ^ n + word_of test n
 word_next test n true small = let e = set-adds (word_of test n) n (word-bit-above test n n (omega arith)) in omega arith
-word_next test n false small = let e = bit-kept (word_of test n) n false small (word-small test n (omega arith)) (word-bit-above test n n (omega arith)) in omega arith
+word_next test n false small =
+    let e = bit-kept (word_of test n) n false small (word-small test n (omega arith)) (word-bit-above test n n (omega arith)) in omega arith
 
 pub word-more : (test : ℕ → Bool) (n : ℕ) → n < 32 → with_bit (word_of test n) (n + 1 - 1) (test (n + 1)) ≡ word_of test (n + 1)
 unfolding word_of

@@ -138,7 +138,8 @@ lifted-parts ps ps1 qs riding flying met riding1 met1 i h c e r m =
     let long = length-set ps (i - 1) empty in
     let j : i + 1 - 1 ≡ i = omega arith in
     let two = passenger-parts (slice_set ps (i - 1) None) qs (with_bit riding (i - 1) false) flying (with_bit met (i - 1) false) riding1 met1 (i + 1)
-    (slice_index_or ps (i - 1) None) true one (omega arith) (omega (arith, l.above)) l.rides (rw j r) (rw j (m ∙ sym (rises ps qs riding flying met i h c).unmet))
+    (slice_index_or ps (i - 1) None) true one (omega arith) (omega (arith, l.above)) l.rides (rw j r)
+    (rw j (m ∙ sym (rises ps qs riding flying met i h c).unmet))
     in
     rw (e, swapped ps i (slice_index_or ps (i - 1) None) l.low) two
 

@@ -69,7 +69,8 @@ carried-out arguments s reported said blank full same d ends =
     })
 
 -- its report was written, and all of it was passed on
-pub top-put : (arguments : List (List ℕ)) (s : OutsideChange) (reported : Reported) (blank full : Report) → s.blank ≡ blank → Decided arguments s (Ok reported) →
+pub top-put : (arguments : List (List ℕ)) (s : OutsideChange) (reported : Reported) (blank full : Report) → s.blank ≡ blank →
+    Decided arguments s (Ok reported) →
     reported.put ≡ Ok tt →
     WritesNothing s.full.written full.written → full.faults ≡ s.full.faults → IsTop arguments (change_of s.before s.after blank full) reported.status
 top-put arguments s reported blank full same d put passed still =
@@ -78,7 +79,8 @@ top-put arguments s reported blank full same d put passed still =
     (inl (refl, text-before d.comes.3.told s.full.written full.written d.comes.1 closes.all passed, still ∙ closes.cause.still))
 
 -- it was written, and the report failed while passing it on
-pub top-unpassed : (arguments : List (List ℕ)) (s : OutsideChange) (reported : Reported) (blank full : Report) → s.blank ≡ blank → Decided arguments s (Ok reported) →
+pub top-unpassed : (arguments : List (List ℕ)) (s : OutsideChange) (reported : Reported) (blank full : Report) → s.blank ≡ blank →
+    Decided arguments s (Ok reported) →
     reported.put ≡ Ok tt →
     WritesNothing s.full.written full.written → Rose s.full.faults full.faults → IsTop arguments (change_of s.before s.after blank full) status.WriteFault
 top-unpassed arguments s reported blank full same d put passed rose =

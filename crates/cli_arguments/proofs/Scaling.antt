@@ -5,7 +5,8 @@ use Rattle.std.specs.Str.Parse.{digits_value}
 use Rattle.cli_arguments.specs.Values.{amount_in, amount_of, bounded, digits_in, is_amount, number_before, number_up_to, numeral_in, unit_of}
 
 -- the number before the unit exists if the argument writes an amount
-before-is : (argument : List ℕ) → number_before (unit_of argument) (digits_in argument) ≡ (if is_amount argument then Some (digits_value 10 (digits_in argument)) else None)
+before-is : (argument : List ℕ) → number_before (unit_of argument) (digits_in argument) ≡
+    (if is_amount argument then Some (digits_value 10 (digits_in argument)) else None)
 unfolding number_before is_amount number_up_to numeral_in digits_in
 before-is argument = by (nat_eq (unit_of argument) 1) refl
   where

@@ -337,7 +337,8 @@ value-read keys.States subject given argument later h =
     record { key_is = refl; argument_is = refl; allowed = t.0; more_is = ap (λ (m : ℕ). record given { states = Some m }) t.1 }) h
 value-read keys.Without subject given argument later h =
     value-found (rule_named argument) (λ rule. record given { without = Some rule }) do_without subject given keys.Without argument later
-    (λ rule e. record { key_is = refl; argument_is = one-argument argument (rule_name rule) (sym (named_once argument rule e)); allowed = refl; more_is = refl }) h
+    (λ rule e.
+    record { key_is = refl; argument_is = one-argument argument (rule_name rule) (sym (named_once argument rule e)); allowed = refl; more_is = refl }) h
 value-read keys.Mul subject given argument later h = absurd (cc)
 value-read keys.Run subject given argument later h = absurd (cc)
 

@@ -45,7 +45,8 @@ measures-all arguments options delays plans start blank told times place named h
 }
 
 -- the layout was named
-pub times-all : (arguments : List NamedLayout) (options : RunChoices) (delays : List Span) (plans : List Plan) (start : Machine) (blank told full : Option (List ℕ))
+pub times-all : (arguments : List NamedLayout) (options : RunChoices) (delays : List Span) (plans : List Plan) (start : Machine)
+    (blank told full : Option (List ℕ))
     (times : List ℕ) (place : ℕ) (named : NamedLayout) (answer : Answer) → PutsAll arguments options delays plans start blank told times →
     IsFirstLeast times place → slice_get arguments place ≡ Some named → Writes told full (least_line named) →
     answer.status ≡ status.Done → answer.closing ≡ [] →
@@ -101,7 +102,8 @@ times-named {T = T} {E = E} arguments options delays plans start blank told full
     times-all arguments options delays plans start blank told full times place named answer h least is q.all done closed
 
 -- memory was refused before that
-pub times-fewer : (arguments : List NamedLayout) (options : RunChoices) (delays : List Span) (plans : List Plan) (start : Machine) (blank full : Option (List ℕ))
+pub times-fewer : (arguments : List NamedLayout) (options : RunChoices) (delays : List Span) (plans : List Plan) (start : Machine)
+    (blank full : Option (List ℕ))
     (place : ℕ) (answer : Answer) → PutsFewer arguments options delays plans start blank full place →
     answer.status ≡ status.NoMemory → answer.closing ≡ line (codes "no memory") →
     Decides (TimesOf arguments options delays plans start) (BreaksTimes arguments options delays plans start blank full) blank full (Ok answer)

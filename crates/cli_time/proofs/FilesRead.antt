@@ -28,7 +28,8 @@ delays-lacking name a b answer report (inl r) = were-all (name ∷ []) a b (one-
 delays-lacking name a b answer report (inr r) = were-lacking _ _ name a b answer report r
 
 -- the layouts
-layouts-read : (arguments : List NamedLayout) (a b : Option FilesSeen) (plans : List Plan) → AreLayoutsAt arguments a b plans → AllRead (files_of_layouts arguments) a b
+layouts-read : (arguments : List NamedLayout) (a b : Option FilesSeen) (plans : List Plan) → AreLayoutsAt arguments a b plans →
+    AllRead (files_of_layouts arguments) a b
 layouts-read [] a b [] same = none-read a b same
 layouts-read [] a b (plan ∷ plans) h = absurd h
 layouts-read (argument ∷ arguments) a b [] h = absurd h

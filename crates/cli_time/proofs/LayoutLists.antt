@@ -34,7 +34,8 @@ lacks-after (w ∷ arguments) more (p ∷ plans) a b c answer report (m, first, 
     inr (inr (m, p, first, lacks-after arguments more plans m b c answer report rest h))
 
 -- the next one is refused, or memory for it after it was read
-pub refused-next : (arguments : List NamedLayout) (plans : List Plan) (i : ℕ) (argument : NamedLayout) (a b c : Option FilesSeen) (answer : Status) (report : List ℕ) →
+pub refused-next : (arguments : List NamedLayout) (plans : List Plan) (i : ℕ) (argument : NamedLayout) (a b c : Option FilesSeen)
+    (answer : Status) (report : List ℕ) →
     slice_get arguments i ≡ Some argument → AreLayoutsAt (take i arguments) a b plans → LacksLayout argument b c answer report →
     LacksLayouts arguments a c answer report
 refused-next arguments plans i argument a b c answer report e all h =

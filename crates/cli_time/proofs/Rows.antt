@@ -77,7 +77,8 @@ put-next : (arguments : List NamedLayout) (options : RunChoices) (delays : List 
     slice_get arguments place ≡ Some argument → slice_get plans place ≡ Some plan → Measures delays options plan start next →
     Writes told full (layout_lines options.limit argument next) → later ≡ now → more ≡ times ++ next.measured.time ∷ [] →
     RowsPut arguments options delays plans start blank full before later (place + 1) more
-put-next arguments options delays plans start blank told full before now later place times more argument plan next h at_argument at_plan measures put still pushed =
+put-next arguments options delays plans start blank told full before now later place times more argument plan next h at_argument at_plan measures put
+    still pushed =
     let w : slice_get arguments (length h.measured) ≡ Some argument = rw h.count at_argument in
     let p : slice_get plans (length h.measured) ≡ Some plan = rw h.count at_plan in
     record {
@@ -181,7 +182,8 @@ pub rows-stop : (arguments : List NamedLayout) (options : RunChoices) (delays : 
     RowsPut arguments options delays plans start blank told before now place times → place < length plans → slice_get plans place ≡ Some plan →
     MeasuringStops place delays options plan start told full stops → TimingStops arguments options delays plans start blank full stops
 rows-stop arguments options delays plans start blank told full before now place times plan (stop.NoMemory at) h below at_plan (here, same) =
-    subst (PutsFewer arguments options delays plans start blank full) (sym here) (rows-fewer arguments options delays plans start blank full before now place times
+    subst (PutsFewer arguments options delays plans start blank full) (sym here)
+    (rows-fewer arguments options delays plans start blank full before now place times
     (rw same (record { measured = h.measured; each = h.each; count = h.count; times_are = h.times_are; put = h.put; still = h.still })) below)
 rows-stop arguments options delays plans start blank told full before now place times plan stop.Failed h below at_plan cut =
     rows-cut arguments options delays plans start blank told full before now place times plan h at_plan cut

@@ -40,10 +40,13 @@ impl Chains {
         ensures room { OnOk result (length self.new.links.items < vec_capacity self.new.links) }
         ensures few { OnOk result (length self.new.links.items + 1 < 2 ^ 32) }
     {
-        if self.links.len() >= u32::MAX as usize {
-            return Err(AllocError);
-        }
-        self.links.reserve(1)
+        // Once the numbers run out, more room is asked for than any memory has.
+        let more = if self.links.len() < u32::MAX as usize {
+            1
+        } else {
+            usize::MAX
+        };
+        self.links.reserve(more)
     }
 
     /// Adds the next number, which is in this bucket.

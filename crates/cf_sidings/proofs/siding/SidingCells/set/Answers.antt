@@ -33,7 +33,8 @@ pub overflow_add-self : goal.overflow_add-self
 overflow_add-self c = record {
   fits = fits c.self.inside.cells.items c.args.c _ c.count-count.result c.args.op
       (follows c.self.inside.cells.items c.args.c c.self.inside.held c.number.result c.number-2.result c.index.result.now c.args.op
-      (within _ _ _ c.self.view_is c.requires) c.index.ensures c.self.invariant c.number.ensures c.number-2.ensures) c.count-count.ensures.cells c.count-count.ensures.small;
+      (within _ _ _ c.self.view_is c.requires) c.index.ensures c.self.invariant c.number.ensures c.number-2.ensures)
+      c.count-count.ensures.cells c.count-count.ensures.small;
 }
 
 pub invariant_of-self : goal.invariant_of-self
