@@ -1,7 +1,7 @@
 //! Whether the sidings hold no operation. Then none of the moves by which an operation goes through them is allowed.
 
 ghost use Rattle.std.specs.List.{list_any};
-ghost use Rattle.std.specs.Prelude.{◌≡◌, ℕ, false, find, true};
+ghost use Rattle.std.specs.Prelude.{◌≡◌, ℕ, false, find, not, true};
 ghost use Rattle.cf_semantics.specs.state.Options.{is_some};
 ghost use Rattle.cf_semantics.specs.state.State.{siding_at};
 ghost use Rattle.cf_index.specs.PickedFrom.{from_leave, outward_on};
@@ -15,7 +15,8 @@ use cf_core::Core;
 #[inline(always)]
 #[tactic(auto, using(crate::proofs::EmptySidings::all_empty))]
 pub(crate) fn are_empty(core: &Core) -> bool
-    ensures { result ≡ true → (k : ℕ) → list_any is_some (siding_at core.now.state k) ≡ false }
+    ensures empty { result ≡ not (list_any (list_any is_some) core.now.state.sidings) }
+    ensures each { result ≡ true → (k : ℕ) → list_any is_some (siding_at core.now.state k) ≡ false }
 {
     !core.holds_operations()
 }
@@ -26,7 +27,8 @@ impl Candidates {
     #[inline(always)]
     #[tactic(auto, using(crate::proofs::EmptySidings::idle_outward))]
     pub fn sidings_empty(core: &Core, last: Rank) -> bool
-        ensures { result ≡ true → find (is_past last) (from_leave core.now.plan core.now.state) ≡ find (is_past last) (outward_on core.now.plan core.now.state) }
+        ensures empty { result ≡ not (list_any (list_any is_some) core.now.state.sidings) }
+        ensures skips { result ≡ true → find (is_past last) (from_leave core.now.plan core.now.state) ≡ find (is_past last) (outward_on core.now.plan core.now.state) }
     {
         let _last = last;
         are_empty(core)
