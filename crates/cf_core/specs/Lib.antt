@@ -9,3 +9,4 @@ pub mod Undo
 pub mod Places
 pub mod Riders
 pub mod Stations
+pub mod Climbing

@@ -11,3 +11,4 @@ pub mod PickedFrom
 pub mod Spread
 pub mod Sites
 pub mod Alone
+pub mod Left
