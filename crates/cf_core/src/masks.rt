@@ -1,7 +1,7 @@
 //! The masks: one word for each fact about the stages that a caller sees. Unlike the marks, from which they are read, they
 //! have no move allowed once the program has ended, or the input or the output has failed.
 
-ghost use Rattle.std.specs.Prelude.{◌≡◌, if◌then◌else◌, ◌&&◌, not};
+ghost use Rattle.std.specs.Prelude.{◌≡◌, if◌then◌else◌, ◌&&◌, not, true};
 ghost use Rattle.cf_semantics.specs.state.Options.{is_some};
 ghost use Rattle.cf_core.specs.Masks.{masks_of};
 
@@ -55,15 +55,15 @@ impl Processor {
 }
 
 impl Core {
-    /// The masks of the present state. They are read from marks that are kept up to date move by move, so that no call walks
-    /// the stages.
+    /// The masks of the present state, given whether the processor goes on. They are read from marks that are kept up to date
+    /// move by move, so that no call walks the stages.
     #[inline(always)]
-    pub fn masks(&self) -> Masks
+    fn masks_if(&self, goes_on: bool) -> Masks
+        requires { goes_on ≡ (not (is_some self.now.state.ending) && not self.now.state.failed) }
         ensures { result ≡ masks_of self.now.plan self.now.state }
     {
         let processor = &self.processor;
         let marks = self.marks;
-        let goes_on = processor.goes_on();
         Masks {
             passengers: processor.stages.passengers(),
             packets: processor.stages.packets(),
@@ -74,5 +74,23 @@ impl Core {
             launch: where_on(goes_on, marks.launch),
             recover: where_on(goes_on, marks.recover),
         }
+    }
+
+    /// The masks of the present state. No call walks the stages.
+    #[inline(always)]
+    pub fn masks(&self) -> Masks
+        ensures { result ≡ masks_of self.now.plan self.now.state }
+    {
+        self.masks_if(self.processor.goes_on())
+    }
+
+    /// The masks of a processor that is known to go on: the program has not ended, and neither the input nor the output has
+    /// failed. It is not tested again.
+    #[inline(always)]
+    pub fn open_masks(&self) -> Masks
+        requires { (not (is_some self.now.state.ending) && not self.now.state.failed) ≡ true }
+        ensures { result ≡ masks_of self.now.plan self.now.state }
+    {
+        self.masks_if(true)
     }
 }
