@@ -1,4 +1,4 @@
--- A word in which the flag of a stage goes to a neighbour: one addition or one subtraction, since no carry goes further.
+-- A word in which the flag of a stage goes to the one below: one subtraction, since nothing is borrowed from further up.
 use Rattle.std.proofs.Common.{◌≡◌, ◌≢◌, ◌∙◌, ℕ, zero, suc, ◌+◌, ◌-◌, ◌*◌, ◌^◌, ◌<◌, ◌≤◌, Bool, true, false, refl, sym, ap, arith}
 use Rattle.std.specs.Prelude.{nat_eq}
 use Rattle.std.specs.Int.{bit_at}
@@ -48,18 +48,7 @@ clear-takes w k small less is =
             let off : j ≢ k = grind (arith, nat_tests) in
             bit-other (with_bit w k false) k j true small below off ∙ bit-other w k j false small below off
 
--- a flag goes to the next higher place
-pub raised-adds : (w k : ℕ) → suc k < 32 → w < 2 ^ 32 → has_bit w k ≡ true → has_bit w (suc k) ≡ false →
-    w + 2 ^ k ≡ with_bit (with_bit w k false) (suc k) true
-raised-adds w k small less set clear =
-    let v = with_bit w k false in
-    let taken = clear-takes w k (omega arith) less set in
-    let off : suc k ≢ k = λ g. absurd (omega arith) in
-    let free = bit-other w k (suc k) false (omega arith) small off ∙ clear in
-    let put = set-adds v (suc k) free in
-    omega arith
-
--- or to the next lower one
+-- a flag goes to the next lower place
 pub lowered-takes : (w k : ℕ) → 0 < k → k < 32 → w < 2 ^ 32 → has_bit w k ≡ true → has_bit w (k - 1) ≡ false →
     with_bit (with_bit w k false) (k - 1) true + 2 ^ (k - 1) ≡ w
 lowered-takes w zero low small less set clear = absurd (omega arith)
@@ -73,13 +62,6 @@ lowered-takes w (suc j) low small less set clear =
     rw z (omega arith)
 
 -- the same for stages
-pub raised-word : (w i : ℕ) → 0 < i → i < 32 → w < 2 ^ 32 → has_bit w (i - 1) ≡ true → has_bit w i ≡ false →
-    w + 2 ^ (i - 1) ≡ with_bit (with_bit w (i - 1) false) i true
-raised-word w zero low within less set clear = absurd (omega arith)
-raised-word w (suc k) low within less set clear =
-    let z : suc k - 1 ≡ k = omega arith in
-    rw z (raised-adds w k within less (rw z at set) clear)
-
 pub lowered-word : (w i : ℕ) → 1 < i → i ≤ 32 → w < 2 ^ 32 → has_bit w (i - 1) ≡ true → has_bit w (i - 2) ≡ false →
     with_bit (with_bit w (i - 1) false) (i - 2) true + 2 ^ (i - 2) ≡ w
 lowered-word w zero low within less set clear = absurd (omega arith)

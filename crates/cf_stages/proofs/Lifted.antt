@@ -1,7 +1,7 @@
--- The contents of the stages and the bit words after an instruction moved to the stage above, or a result to the one
+-- The contents of the stages and the bit words after an instruction moved to a higher stage, or a result to the one
 -- below.
-use Rattle.std.proofs.Common.{◌≡◌, ◌∙◌, ℕ, suc, ◌+◌, ◌-◌, ◌^◌, ◌<◌, ◌≤◌, ◌≢◌, All, List, Option, Some, None, Bool, true, false, IsTrue, length, length-set, refl, sym, ap, subst, arith}
-use Rattle.std.specs.Prelude.{IsSome, slice_index_or, slice_set}
+use Rattle.std.proofs.Common.{◌≡◌, ◌∙◌, ℕ, suc, ◌-◌, ◌^◌, ◌<◌, ◌≤◌, ◌≢◌, All, List, Option, Some, None, Bool, true, false, IsTrue, length, length-set, refl, sym, ap, subst, arith}
+use Rattle.std.specs.Prelude.{IsNone, IsSome, slice_index_or, slice_set}
 use Rattle.std.proofs.lemmas.List.{set_comm}
 use Rattle.std.proofs.lemmas.Option.{slice_get-get_or}
 use Rattle.cf_bind.specs.declared.cell.Cell.{Cell}
@@ -10,14 +10,14 @@ use Rattle.cf_bind.specs.declared.passenger.Passenger.{Passenger}
 use Rattle.cf_layout.specs.Words.{has_bit}
 use Rattle.cf_semantics.specs.state.Options.{on, is_some}
 use Rattle.cf_semantics.specs.state.State.{cell_at}
-use Rattle.cf_stages.specs.Changes.{IsCell, changed, climbs, cells_climbed, falls, cells_fallen, packet_at, passenger_at, with_new_passenger}
+use Rattle.cf_stages.specs.Changes.{IsCell, changed, cells_lifted, falls, cells_fallen, packet_at, passenger_at, with_new_passenger}
 use Rattle.cf_stages.specs.Parts.{AreParts, all_cells, with_place}
 use Rattle.cf_stages.specs.Words.{with_bit, word_where}
 use Rattle.cf_stages.proofs.Bits.{bit-other, with_bit-lt, word-bit, word-small}
 use Rattle.cf_stages.proofs.Carries.{bit-kept}
 use Rattle.cf_stages.proofs.Cells.{cell-in}
 use Rattle.cf_stages.proofs.Kept.{count-read, few-read, passenger-parts, passenger-placed, passenger-read, packet-parts, packet-placed, packet-read, pipes-read}
-use Rattle.cf_stages.proofs.Neighbours.{climbed-is, climbs-high, climbs-low, climbs-rider, climbs-room, fallen-is, falls-low, falls-result, falls-room, falls-within}
+use Rattle.cf_stages.proofs.Neighbours.{lifted-is, fallen-is, falls-low, falls-result, falls-room, falls-within}
 
 -- what was read does not depend on the value that is used if there is no entry
 read_any : {A : Type 0} (xs : List A) (k : ℕ) (x y : A) → k < length xs → slice_index_or xs k x ≡ slice_index_or xs k y
@@ -26,34 +26,19 @@ read_any xs k x y within =
     let b = slice_get-get_or xs k y within in
     cc
 
--- the instruction is in the stage above, and none is left in the stage where it was
-record Lifts (ps : List (Option Passenger)) (qs : List (Option Packet)) (met i : ℕ) : Type 0 where
+-- the instruction of stage i can go to the higher stage j
+record Lifts (ps : List (Option Passenger)) (qs : List (Option Packet)) (met i j : ℕ) : Type 0 where
   low : 0 < i
-  within : i ≤ length ps
-  above : i + 1 ≤ length ps
+  order : i < j
+  within : j ≤ length ps
   is : slice_index_or ps (i - 1) None ≡ passenger_at (all_cells ps qs met) i
   rides : true ≡ is_some (slice_index_or ps (i - 1) None)
+  -- nothing has met in stage j
+  unmet : with_bit (with_bit met (i - 1) false) (j - 1) false ≡ with_bit met (i - 1) false
 
 some_true : (o : Option Passenger) → IsSome o → true ≡ is_some o
 some_true None g = absurd (cc)
 some_true (Some p) g = refl
-
-lifts : (ps : List (Option Passenger)) (qs : List (Option Packet)) (riding flying met i : ℕ) → AreParts ps qs riding flying met →
-    IsTrue (climbs (all_cells ps qs met) i) → Lifts ps qs met i
-lifts ps qs riding flying met i h c =
-    let cells = all_cells ps qs met in
-    let n = count-read ps qs riding flying met h in
-    let low = climbs-low cells i c in
-    let high = climbs-high cells i c in
-    let rider = slice_index_or ps (i - 1) None in
-    let e = passenger-read ps qs riding flying met i rider h low (omega arith) (read_any ps (i - 1) None rider (omega arith)) in
-    record {
-      low = low;
-      within = omega arith;
-      above = omega arith;
-      is = e;
-      rides = some_true rider (subst (λ (o : Option Passenger). IsSome o) (sym e) (climbs-rider cells i c));
-    }
 
 -- the bits of the stage and of its neighbour, before a move
 record Bits (w met j k : ℕ) : Type 0 where
@@ -79,10 +64,6 @@ not_met cells i (Some c) half all e both none = by c.met refl
     by false m = m
     by true m = let t = both c (cell-in cells i c all e) (rw m refl) in absurd (cc)
 
-rider_some : (o : Option Cell) → IsSome (on o None (λ c. c.passenger)) → on o false (λ c. is_some c.passenger) ≡ true
-rider_some None h = absurd (cc)
-rider_some (Some c) h = grind arith
-
 pub result-some : (o : Option Cell) → IsSome (on o None (λ c. c.packet)) → on o false (λ c. is_some c.packet) ≡ true
 result-some None h = absurd (cc)
 result-some (Some c) h = grind arith
@@ -98,82 +79,80 @@ unmet_there : (met j k : ℕ) → j < 32 → k < 32 → k ≢ j → met < 2 ^ 32
 unmet_there met j k below high off small clear =
     bit-kept (with_bit met j false) k false high (with_bit-lt met j false below small) (bit-other met j k false below high off ∙ clear)
 
-rises : (ps : List (Option Passenger)) (qs : List (Option Packet)) (riding flying met i : ℕ) → AreParts ps qs riding flying met →
-    IsTrue (climbs (all_cells ps qs met) i) → Bits riding met (i - 1) i
-rises ps qs riding flying met i h c =
+no_rider : (o : Option Cell) → IsNone (on o None (λ c. c.passenger)) → on o false (λ c. is_some c.passenger) ≡ false
+no_rider None h = refl
+no_rider (Some c) h = by c.passenger h
+  where
+    by : (o : Option Passenger) → IsNone o → is_some o ≡ false
+    by None g = refl
+    by (Some p) g = absurd (cc)
+
+lifts : (ps : List (Option Passenger)) (qs : List (Option Packet)) (riding flying met i j : ℕ) → AreParts ps qs riding flying met →
+    0 < i → i < j → j ≤ length ps → IsSome (passenger_at (all_cells ps qs met) i) → IsNone (passenger_at (all_cells ps qs met) j) → Lifts ps qs met i j
+lifts ps qs riding flying met i j h low order within rides room =
     let cells = all_cells ps qs met in
     let n = count-read ps qs riding flying met h in
-    let low = climbs-low cells i c in
-    let high = climbs-high cells i c in
-    let here : suc (i - 1) ≡ i = omega arith in
-    let above : suc i ≡ i + 1 = omega arith in
-    let clear = ap (λ (j : ℕ). on (cell_at cells j) false (λ d. is_some d.passenger)) above ∙ climbs-room cells i c in
-    let none = not_met cells (suc i) (cell_at cells (suc i)) (λ d. is_some d.passenger) h.cells refl rider_met clear in
+    let rider = slice_index_or ps (i - 1) None in
+    let e = passenger-read ps qs riding flying met i rider h low (omega arith) (read_any ps (i - 1) None rider (omega arith)) in
+    let there : suc (j - 1) ≡ j = omega arith in
+    let none = not_met cells j (cell_at cells j) (λ d. is_some d.passenger) h.cells refl rider_met (no_rider (cell_at cells j) room) in
+    let clear = bit-of (λ d. d.met) cells met (j - 1) h.met_bits (omega arith) ∙ ap (λ (k : ℕ). on (cell_at cells k) false (λ d. d.met)) there ∙ none in
     record {
-      small = rw h.passenger_bits (word-small _ (length cells) (omega (arith, h.most)));
-      set = bit-of (λ d. is_some d.passenger) cells riding (i - 1) h.passenger_bits (omega arith)
-          ∙ ap (λ (j : ℕ). on (cell_at cells j) false (λ d. is_some d.passenger)) here ∙ rider_some (cell_at cells i) (climbs-rider cells i c);
-      clear = bit-of (λ d. is_some d.passenger) cells riding i h.passenger_bits (omega arith) ∙ clear;
-      unmet = unmet_there met (i - 1) i (omega (arith, h.most)) (omega (arith, h.most)) (λ g. absurd (omega arith))
-          (rw h.met_bits (word-small _ (length cells) (omega (arith, h.most)))) (bit-of (λ d. d.met) cells met i h.met_bits (omega arith) ∙ none);
+      low = low;
+      order = order;
+      within = within;
+      is = e;
+      rides = some_true rider (subst (λ (o : Option Passenger). IsSome o) (sym e) rides);
+      unmet = unmet_there met (i - 1) (j - 1) (omega (arith, h.most)) (omega (arith, h.most)) (λ g. absurd (omega arith))
+          (rw h.met_bits (word-small _ (length cells) (omega (arith, h.most)))) clear;
     }
 
 -- the two entries are changed in either order
-swapped : (ps : List (Option Passenger)) (i : ℕ) (p : Option Passenger) → 0 < i → slice_set (slice_set ps i p) (i - 1) None
-    ≡ slice_set (slice_set ps (i - 1) None) (i + 1 - 1) p
-swapped ps i p low =
-    let j : i + 1 - 1 ≡ i = omega arith in
-    rw j (set_comm ps i (i - 1) p None (λ g. absurd (omega arith)))
+swapped : (ps : List (Option Passenger)) (i j : ℕ) (p : Option Passenger) → 0 < i → i < j → slice_set (slice_set ps (j - 1) p) (i - 1) None
+    ≡ slice_set (slice_set ps (i - 1) None) (j - 1) p
+swapped ps i j p low order = set_comm ps (j - 1) (i - 1) p None (λ g. absurd (omega arith))
 
-pub lifted-parts : (ps ps1 : List (Option Passenger)) (qs : List (Option Packet)) (riding flying met riding1 met1 i : ℕ) → AreParts ps qs riding flying met →
-    IsTrue (climbs (all_cells ps qs met) i) →
-    ps1 ≡ slice_set ps i (slice_index_or ps (i - 1) None) → riding1 ≡ with_bit (with_bit riding (i - 1) false) i true →
+-- the pipes and the words once the instruction has left its stage
+left_parts : (ps : List (Option Passenger)) (qs : List (Option Packet)) (riding flying met i j : ℕ) → AreParts ps qs riding flying met →
+    Lifts ps qs met i j → AreParts (slice_set ps (i - 1) None) qs (with_bit riding (i - 1) false) flying (with_bit met (i - 1) false)
+left_parts ps qs riding flying met i j h l =
+    passenger-parts ps qs riding flying met (with_bit riding (i - 1) false) (with_bit met (i - 1) false) i None false h l.low
+    (omega (arith, l.order, l.within)) refl refl refl
+
+pub lifted-parts : (ps ps1 : List (Option Passenger)) (qs : List (Option Packet)) (riding flying met riding1 met1 i j : ℕ) → AreParts ps qs riding flying met →
+    0 < i → i < j → j ≤ length ps → IsSome (passenger_at (all_cells ps qs met) i) → IsNone (passenger_at (all_cells ps qs met) j) →
+    ps1 ≡ slice_set ps (j - 1) (slice_index_or ps (i - 1) None) → riding1 ≡ with_bit (with_bit riding (i - 1) false) (j - 1) true →
     met1 ≡ with_bit met (i - 1) false →
     AreParts (slice_set ps1 (i - 1) None) qs riding1 flying met1
-lifted-parts ps ps1 qs riding flying met riding1 met1 i h c e r m =
-    let l = lifts ps qs riding flying met i h c in
-    let one = passenger-parts ps qs riding flying met (with_bit riding (i - 1) false) (with_bit met (i - 1) false) i None false h l.low l.within refl refl refl
-    in
+lifted-parts ps ps1 qs riding flying met riding1 met1 i j h low order within rides room e r m =
+    let l = lifts ps qs riding flying met i j h low order within rides room in
     let empty : Option Passenger = None in
     let long = length-set ps (i - 1) empty in
-    let j : i + 1 - 1 ≡ i = omega arith in
-    let two = passenger-parts (slice_set ps (i - 1) None) qs (with_bit riding (i - 1) false) flying (with_bit met (i - 1) false) riding1 met1 (i + 1)
-    (slice_index_or ps (i - 1) None) true one (omega arith) (omega (arith, l.above)) l.rides (rw j r)
-    (rw j (m ∙ sym (rises ps qs riding flying met i h c).unmet))
+    let two = passenger-parts (slice_set ps (i - 1) None) qs (with_bit riding (i - 1) false) flying (with_bit met (i - 1) false) riding1 met1 j
+    (slice_index_or ps (i - 1) None) true (left_parts ps qs riding flying met i j h l) (omega arith) (omega arith) l.rides r (m ∙ sym l.unmet)
     in
-    rw (e, swapped ps i (slice_index_or ps (i - 1) None) l.low) two
+    rw (e, swapped ps i j (slice_index_or ps (i - 1) None) low order) two
 
-pub lifted-is : (ps ps1 : List (Option Passenger)) (qs : List (Option Packet)) (riding flying met met1 i : ℕ) → AreParts ps qs riding flying met →
-    IsTrue (climbs (all_cells ps qs met) i) →
-    ps1 ≡ slice_set ps i (slice_index_or ps (i - 1) None) → met1 ≡ with_bit met (i - 1) false →
-    all_cells (slice_set ps1 (i - 1) None) qs met1 ≡ cells_climbed (all_cells ps qs met) i
-lifted-is ps ps1 qs riding flying met met1 i h c e m =
-    let l = lifts ps qs riding flying met i h c in
+pub lifted-placed : (ps ps1 : List (Option Passenger)) (qs : List (Option Packet)) (riding flying met met1 i j : ℕ) → AreParts ps qs riding flying met →
+    0 < i → i < j → j ≤ length ps → IsSome (passenger_at (all_cells ps qs met) i) → IsNone (passenger_at (all_cells ps qs met) j) →
+    ps1 ≡ slice_set ps (j - 1) (slice_index_or ps (i - 1) None) → met1 ≡ with_bit met (i - 1) false →
+    all_cells (slice_set ps1 (i - 1) None) qs met1 ≡ cells_lifted (all_cells ps qs met) i j
+lifted-placed ps ps1 qs riding flying met met1 i j h low order within rides room e m =
+    let l = lifts ps qs riding flying met i j h low order within rides room in
     let q = slice_index_or ps (i - 1) None in
-    let one = passenger-parts ps qs riding flying met (with_bit riding (i - 1) false) (with_bit met (i - 1) false) i None false h l.low l.within refl refl refl
-    in
     let empty : Option Passenger = None in
     let long = length-set ps (i - 1) empty in
-    let j : i + 1 - 1 ≡ i = omega arith in
-    let first = passenger-placed ps qs riding flying met (with_bit met (i - 1) false) i None h l.low l.within refl in
-    let second = passenger-placed (slice_set ps (i - 1) None) qs (with_bit riding (i - 1) false) flying (with_bit met (i - 1) false) met1 (i + 1) q one
-    (omega arith) (omega (arith, l.above)) (rw j (m ∙ sym (rises ps qs riding flying met i h c).unmet)) in
+    let n = count-read ps qs riding flying met h in
+    let first = passenger-placed ps qs riding flying met (with_bit met (i - 1) false) i None h low (omega arith) refl in
+    let second = passenger-placed (slice_set ps (i - 1) None) qs (with_bit riding (i - 1) false) flying (with_bit met (i - 1) false) met1 j q
+    (left_parts ps qs riding flying met i j h l) (omega arith) (omega arith) (m ∙ sym l.unmet) in
     ap (λ (xs : List (Option Passenger)). all_cells (slice_set xs (i - 1) None) qs met1) e
-    ∙ ap (λ (xs : List (Option Passenger)). all_cells xs qs met1) (swapped ps i q l.low)
+    ∙ ap (λ (xs : List (Option Passenger)). all_cells xs qs met1) (swapped ps i j q low order)
     ∙ second
-    ∙ ap (λ (cells : List Cell). changed cells (i + 1) (with_new_passenger q)) first
-    ∙ climbed-is (all_cells ps qs met) i q c l.is
+    ∙ ap (λ (cells : List Cell). changed cells j (with_new_passenger q)) first
+    ∙ lifted-is (all_cells ps qs met) i j q low order (omega arith) l.is
 
--- the bits of a stage that an instruction leaves, and of the one above
-pub rising-set : (ps : List (Option Passenger)) (qs : List (Option Packet)) (riding flying met i : ℕ) → AreParts ps qs riding flying met →
-    IsTrue (climbs (all_cells ps qs met) i) → has_bit riding (i - 1) ≡ true
-rising-set ps qs riding flying met i h c = (rises ps qs riding flying met i h c).set
-
-pub rising-clear : (ps : List (Option Passenger)) (qs : List (Option Packet)) (riding flying met i : ℕ) → AreParts ps qs riding flying met →
-    IsTrue (climbs (all_cells ps qs met) i) → has_bit riding i ≡ false
-rising-clear ps qs riding flying met i h c = (rises ps qs riding flying met i h c).clear
-
-pub ruleset lifting = (lifted-parts, lifted-is, rising-set, rising-clear, climbs-low, climbs-high, count-read, few-read)
+pub ruleset lifting = (lifted-parts, lifted-placed, count-read, few-read)
 
 -- the result is in the stage below, and none is left in the stage where it was
 record Drops (ps : List (Option Passenger)) (qs : List (Option Packet)) (met i : ℕ) (q : Option Packet) : Type 0 where

@@ -1,15 +1,15 @@
--- Two neighbouring stages are changed one after the other.
+-- Two stages are changed one after the other.
 use Rattle.std.proofs.Common.{◌≡◌, ◌≢◌, ◌∙◌, ℕ, ◌+◌, ◌-◌, ◌<◌, ◌≤◌, List, Option, Some, None, false, IsTrue, length, refl, sym, ap, arith}
-use Rattle.std.specs.Prelude.{IsSome}
+use Rattle.std.specs.Prelude.{IsNone, IsSome}
 use Rattle.cf_bind.specs.declared.cell.Cell.{Cell}
 use Rattle.cf_bind.specs.declared.packet.Packet.{Packet}
 use Rattle.cf_bind.specs.declared.passenger.Passenger.{Passenger}
 use Rattle.cf_semantics.specs.state.Options.{on, is_some}
 use Rattle.cf_semantics.specs.state.State.{cell_at, put_cell}
 use Rattle.cf_semantics.specs.moves.Moves.{without_passenger, without_packet}
-use Rattle.cf_stages.specs.Changes.{can_climb, can_fall, changed, passenger_at, packet_at, cells_climbed, cells_fallen, climbs, falls, with_new_passenger, with_new_packet}
+use Rattle.cf_stages.specs.Changes.{can_climb, can_fall, changed, passenger_at, packet_at, cells_lifted, cells_fallen, climbs, falls, with_new_passenger, with_new_packet}
 use Rattle.cf_stages.specs.Parts.{with_place}
-use Rattle.cf_stages.proofs.Parts.{cell-put-other, stage-low, stage-high}
+use Rattle.cf_stages.proofs.Parts.{cell-put-other, stage-low, stage-high, stood}
 
 -- the contents of two different stages are changed
 two_changed : (cells : List Cell) (i j : ℕ) (c d : Cell) (f g : Cell → Cell) → j ≢ i → cell_at cells i ≡ Some c → cell_at cells j ≡ Some d →
@@ -18,10 +18,10 @@ two_changed cells i j c d f g off here there =
     let e = cell-put-other cells i j (f c) off ∙ there in
     rw here (rw e refl)
 
-climbed_there : (cells : List Cell) (i : ℕ) (c d : Cell) → cell_at cells i ≡ Some c → cell_at cells (i + 1) ≡ Some d →
-    cells_climbed cells i ≡ put_cell (put_cell cells i (without_passenger c)) (i + 1) (with_new_passenger c.passenger d)
-unfolding cells_climbed
-climbed_there cells i c d here there = rw (here, there) refl
+pub lifted-there : (cells : List Cell) (i j : ℕ) (c d : Cell) → cell_at cells i ≡ Some c → cell_at cells j ≡ Some d →
+    cells_lifted cells i j ≡ put_cell (put_cell cells i (without_passenger c)) j (with_new_passenger c.passenger d)
+unfolding cells_lifted
+lifted-there cells i j c d here there = rw (here, there) refl
 
 fallen_there : (cells : List Cell) (i : ℕ) (c d : Cell) → cell_at cells i ≡ Some c → cell_at cells (i - 1) ≡ Some d →
     cells_fallen cells i ≡ put_cell (put_cell cells i (without_packet c)) (i - 1) (with_new_packet c.packet d)
@@ -60,24 +60,26 @@ climbs-rider cells i h = rider_by (cell_at cells i) (cell_at cells (i + 1)) h
     rider_by (Some c) None g = absurd (cc)
     rider_by (Some c) (Some d) g = grind arith
 
-pub climbs-room : (cells : List Cell) (i : ℕ) → IsTrue (climbs cells i) → on (cell_at cells (i + 1)) false (λ c. is_some c.passenger) ≡ false
+pub climbs-room : (cells : List Cell) (i : ℕ) → IsTrue (climbs cells i) → IsNone (passenger_at cells (i + 1))
 unfolding climbs
 climbs-room cells i h = room_by (cell_at cells i) (cell_at cells (i + 1)) h
   where
-    room_by : (o q : Option Cell) → IsTrue (on o false (λ c. can_climb c q)) → on q false (λ c. is_some c.passenger) ≡ false
+    room_by : (o q : Option Cell) → IsTrue (on o false (λ c. can_climb c q)) → IsNone (on q None (λ c. c.passenger))
     room_by None q g = absurd (cc)
     room_by (Some c) None g = absurd (cc)
     room_by (Some c) (Some d) g = grind arith
 
-pub climbed-is : (cells : List Cell) (i : ℕ) (p : Option Passenger) → IsTrue (climbs cells i) → p ≡ passenger_at cells i →
-    changed (changed cells i (with_new_passenger None)) (i + 1) (with_new_passenger p) ≡ cells_climbed cells i
-climbed-is cells i p h e =
-    let r = climbs_from cells i h in
-    let rides : p ≡ r.from.passenger = e ∙ ap (λ (o : Option Cell). on o None (λ c. c.passenger)) r.here in
-    rw rides (two_changed cells i (i + 1) r.from r.to (with_new_passenger None) (with_new_passenger r.from.passenger) (λ g. absurd (omega arith)) r.here r.there
-    ∙ sym (climbed_there cells i r.from r.to r.here r.there))
+pub ruleset climbing = (climbs-low, climbs-high, climbs-rider, climbs-room)
 
-pub ruleset climbing = (climbs-low, climbs-high, climbed-is)
+-- the instruction leaves its stage first, and then it is put into the other
+pub lifted-is : (cells : List Cell) (i j : ℕ) (p : Option Passenger) → 0 < i → i < j → j ≤ length cells → p ≡ passenger_at cells i →
+    changed (changed cells i (with_new_passenger None)) j (with_new_passenger p) ≡ cells_lifted cells i j
+lifted-is cells i j p low order within e =
+    let from = stood cells i low (omega arith) in
+    let to = stood cells j (omega arith) within in
+    let rides : p ≡ from.0.passenger = e ∙ ap (λ (o : Option Cell). on o None (λ c. c.passenger)) from.1 in
+    rw rides (two_changed cells i j from.0 to.0 (with_new_passenger None) (with_new_passenger from.0.passenger) (λ g. absurd (omega arith)) from.1 to.1
+    ∙ sym (lifted-there cells i j from.0 to.0 from.1 to.1))
 
 -- the two stages of a move down
 record Falls (cells : List Cell) (i : ℕ) : Type 0 where

@@ -9,7 +9,7 @@ use Rattle.cf_semantics.specs.state.Options.{on}
 use Rattle.cf_semantics.specs.state.State.{cell_at, put_cell}
 use Rattle.cf_semantics.specs.state.Column.{passenger_in, packet_in, in_order, items, column_from}
 use Rattle.cf_semantics.specs.moves.Moves.{without_passenger, without_packet}
-use Rattle.cf_stages.specs.Changes.{can_climb, can_fall, climbs, falls, cells_climbed, cells_fallen, with_new_passenger, with_new_packet}
+use Rattle.cf_stages.specs.Changes.{can_climb, can_fall, climbs, falls, cells_climbed, cells_fallen, cells_lifted, with_new_passenger, with_new_packet}
 use Rattle.cf_stages.specs.Contents.{StageContent, stage_content, contents}
 
 -- the contents of a stage, without its number
@@ -98,7 +98,7 @@ falls-high cells (suc k) h = omega arith
 
 -- an instruction that moves up
 pub contents-climbed : (cells : List Cell) (i : ℕ) → IsTrue (climbs cells i) → contents (cells_climbed cells i) ≡ contents cells
-unfolding contents climbs cells_climbed
+unfolding contents climbs cells_lifted
 contents-climbed cells i h =
     stacked-from 1 (cells_climbed cells i) ∙ climb_step cells i (i + 1) (cell_at cells i) (cell_at cells (i + 1)) (omega arith) refl refl h
     ∙ sym (stacked-from 1 cells)

@@ -2,6 +2,7 @@
 use Rattle.std.proofs.Common.{◌≡◌, ◌≢◌, ◌∙◌, ℕ, zero, suc, ◌+◌, ◌-◌, ◌<◌, ◌≤◌, List, [], ◌∷◌, Option, Some, Bool, true, false, length, refl, sym, ap, arith}
 use Rattle.std.specs.Prelude.{slice_get, slice_set, nat_eq}
 use Rattle.std.proofs.lemmas.Bool.Decides.{nat_tests}
+use Rattle.std.proofs.lemmas.List.{set-set}
 use Rattle.std.proofs.lemmas.Option.{slice_get_within}
 use Rattle.cf_bind.specs.declared.cell.Cell.{Cell}
 use Rattle.cf_bind.specs.declared.packet.Packet.{Packet}
@@ -122,6 +123,23 @@ stage-low cells (suc k) c e = omega arith
 pub stage-high : (cells : List Cell) (i : ℕ) (c : Cell) → cell_at cells i ≡ Some c → i ≤ length cells
 stage-high cells zero c e = absurd (cc)
 stage-high cells (suc k) c e = let h = slice_get_within cells k c e in omega arith
+
+-- a stage that exists
+pub stood : (cells : List Cell) (i : ℕ) → 0 < i → i ≤ length cells → (c : Cell) × (cell_at cells i ≡ Some c)
+stood cells zero low within = absurd (omega arith)
+stood [] (suc k) low within = absurd (omega arith)
+stood (c ∷ cells) (suc zero) low within = (c, refl)
+stood (c ∷ cells) (suc (suc k)) low within = stood cells (suc k) (omega arith) (omega arith)
+
+-- what is put last into a stage is its contents
+pub put-put : (cells : List Cell) (i : ℕ) (c d : Cell) → put_cell (put_cell cells i c) i d ≡ put_cell cells i d
+put-put cells zero c d = refl
+put-put cells (suc k) c d = set-set cells k c d
+
+-- a stage gets what it had
+pub put-same : (cells : List Cell) (i : ℕ) (c : Cell) → cell_at cells i ≡ Some c → put_cell cells i c ≡ cells
+put-same cells zero c e = refl
+put-same cells (suc k) c e = set-same cells k c e
 
 -- the word of a test, with other contents in a stage
 pub word-put : (test : Cell → Bool) (cells : List Cell) (i : ℕ) (c : Cell) → 0 < i → i ≤ length cells → length cells ≤ 32 →

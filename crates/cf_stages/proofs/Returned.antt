@@ -1,7 +1,6 @@
 -- The earlier contents of a stage are put back, the instruction first.
-use Rattle.std.proofs.Common.{◌≡◌, ◌∙◌, ℕ, zero, suc, ◌<◌, ◌≤◌, List, [], ◌∷◌, Option, Some, None, IsTrue, length, refl, arith}
+use Rattle.std.proofs.Common.{◌≡◌, ◌∙◌, ℕ, ◌<◌, ◌≤◌, List, Option, Some, None, IsTrue, length, refl}
 use Rattle.std.specs.Prelude.{IsSome, ◌&&◌}
-use Rattle.std.proofs.lemmas.List.{set-set}
 use Rattle.cf_bind.specs.declared.cell.Cell.{Cell}
 use Rattle.cf_bind.specs.declared.packet.Packet.{Packet}
 use Rattle.cf_bind.specs.declared.passenger.Passenger.{Passenger}
@@ -9,19 +8,7 @@ use Rattle.cf_semantics.specs.state.Options.{is_some}
 use Rattle.cf_semantics.specs.state.State.{cell_at, put_cell}
 use Rattle.cf_stages.specs.Changes.{IsCell, changed, passenger_at, with_new_passenger}
 use Rattle.cf_stages.specs.Parts.{with_place}
-use Rattle.cf_stages.proofs.Parts.{cell-put}
-
--- a stage that exists
-stood : (cells : List Cell) (i : ℕ) → 0 < i → i ≤ length cells → (c : Cell) × (cell_at cells i ≡ Some c)
-stood cells zero low within = absurd (omega arith)
-stood [] (suc k) low within = absurd (omega arith)
-stood (c ∷ cells) (suc zero) low within = (c, refl)
-stood (c ∷ cells) (suc (suc k)) low within = stood cells (suc k) (omega arith) (omega arith)
-
--- what is put last into a stage is its contents
-put-put : (cells : List Cell) (i : ℕ) (c d : Cell) → put_cell (put_cell cells i c) i d ≡ put_cell cells i d
-put-put cells zero c d = refl
-put-put cells (suc k) c d = set-set cells k c d
+use Rattle.cf_stages.proofs.Parts.{cell-put, put-put, stood}
 
 changed_there : (cells : List Cell) (i : ℕ) (c : Cell) (f : Cell → Cell) → cell_at cells i ≡ Some c → changed cells i f ≡ put_cell cells i (f c)
 changed_there cells i c f here = rw here refl

@@ -56,12 +56,16 @@ with_new_passenger p c = record c { passenger = p; met = false }
 abbrev pub with_new_packet : Option Packet → Cell → Cell
 with_new_packet k c = record c { packet = k; met = false }
 
--- the instruction of the stage is now in the one above, and has met nothing there
-unfoldable pub cells_climbed : List Cell → ℕ → List Cell
-cells_climbed cells i =
+-- the instruction of stage i is now in stage j, and has met nothing there
+unfoldable pub cells_lifted : List Cell → ℕ → ℕ → List Cell
+cells_lifted cells i j =
     on (cell_at cells i) cells (λ c.
-    on (cell_at cells (i + 1)) cells (λ d.
-    put_cell (put_cell cells i (without_passenger c)) (i + 1) (with_new_passenger c.passenger d)))
+    on (cell_at cells j) cells (λ d.
+    put_cell (put_cell cells i (without_passenger c)) j (with_new_passenger c.passenger d)))
+
+-- the instruction of the stage is now in the one above
+abbrev pub cells_climbed : List Cell → ℕ → List Cell
+cells_climbed cells i = cells_lifted cells i (i + 1)
 
 -- the result of the stage is now in the one below, and has met nothing there
 unfoldable pub cells_fallen : List Cell → ℕ → List Cell

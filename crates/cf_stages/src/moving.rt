@@ -24,14 +24,15 @@ impl Stages {
 
     /// Moves the instruction of the stage into the one above, where it has met nothing.
     #[inline(always)]
-    #[tactic(auto, using(crate::proofs::Order::climbing))]
+    #[tactic(auto, using(crate::proofs::Order::climbing, crate::proofs::Neighbours::climbing, crate::proofs::Kept::counting))]
     pub fn climb(&mut self, i: u32)
         requires { IsTrue (climbs self.old i) }
         ensures stages { self.new ≡ cells_climbed self.old i }
         ensures order { contents self.new ≡ contents self.old }
         ensures count { length self.new ≡ length self.old }
     {
-        self.lift_passenger(i);
+        let _ = &self.passengers;
+        self.lift(i, i + 1);
     }
 
     /// Whether the stage has a result that can move down: it has met the instruction of its stage, if there is one, and

@@ -1,25 +1,25 @@
 //! One entry of a pipe gets new contents, and the bit words follow.
 
-ghost use Rattle.std.specs.Prelude.{◌≡◌, ◌-◌, ◌<◌, ◌≤◌, IsSome, IsTrue, None, Some, false, length, slice_index_or, slice_set, true};
+ghost use Rattle.std.specs.Prelude.{◌≡◌, ◌-◌, ◌<◌, ◌≤◌, IsNone, IsSome, IsTrue, None, Some, false, length, slice_index_or, slice_set, true};
 ghost use Rattle.cf_semantics.specs.moves.Moves.{with_passenger};
 ghost use Rattle.cf_semantics.specs.state.Options.{is_some};
 ghost use Rattle.cf_semantics.specs.state.State.{put_cell};
-ghost use Rattle.cf_stages.specs.Changes.{IsCell, changed, cells_climbed, climbs, cells_fallen, falls, has_met_at, packet_at, passenger_at, with_new_passenger};
+ghost use Rattle.cf_stages.specs.Changes.{IsCell, changed, cells_lifted, cells_fallen, falls, has_met_at, packet_at, passenger_at, with_new_passenger};
 ghost use Rattle.cf_stages.specs.Parts.{with_place};
 
 use crate::stages::Stages;
-use crate::words::{is_there, lowered, raised, with_bit};
+use crate::words::{is_there, lowered, with_bit};
 use cf_bind::{Cell, Packet, Passenger};
 
-/// Copies the instruction of the entry below into this entry.
+/// Copies the instruction of one entry into another.
 #[inline(always)]
-fn carry(places: &mut Vec<Option<Passenger>>, i: usize)
-    requires above { 0 < i }
-    requires within { i < length places.old.items }
-    ensures copied { places.new.items ≡ slice_set places.old.items i (slice_index_or places.old.items (i - 1) None) }
+fn carry(places: &mut Vec<Option<Passenger>>, from: usize, to: usize)
+    requires from { from < length places.old.items }
+    requires to { to < length places.old.items }
+    ensures copied { places.new.items ≡ slice_set places.old.items to (slice_index_or places.old.items from None) }
     ensures count { length places.new.items ≡ length places.old.items }
 {
-    places[i] = places[i - 1];
+    places[to] = places[from];
 }
 
 impl Stages {
@@ -37,19 +37,23 @@ impl Stages {
         self.passengers[i as usize - 1] = passenger;
     }
 
-    /// The instruction of the stage goes to the one above, which has none, where it has met nothing.
-    // It is copied directly from one entry to the other; a temporary would make it two copies. The bit of the stage above
+    /// The instruction of stage i goes to the higher stage j, which has none, where it has met nothing.
+    // It is copied directly from one entry to the other; a temporary would make it two copies. The bit of the higher stage
     // needs no clearing: nothing has met where no instruction is.
     #[inline(always)]
     #[tactic(auto, using(crate::proofs::Lifted::lifting, crate::proofs::Kept::counting))]
-    pub(crate) fn lift_passenger(&mut self, i: u32)
-        requires { IsTrue (climbs self.old i) }
-        ensures stages { self.new ≡ cells_climbed self.old i }
+    pub fn lift(&mut self, i: u32, j: u32)
+        requires above { 0 < i }
+        requires order { i < j }
+        requires within { j ≤ length self.old }
+        requires there { IsSome (passenger_at self.old i) }
+        requires room { IsNone (passenger_at self.old j) }
+        ensures stages { self.new ≡ cells_lifted self.old i j }
         ensures count { length self.new ≡ length self.old }
     {
-        self.passenger_mask = raised(self.passenger_mask, i);
+        self.passenger_mask = with_bit(with_bit(self.passenger_mask, i, false), j, true);
         self.met_mask = with_bit(self.met_mask, i, false);
-        carry(&mut self.passengers, i as usize);
+        carry(&mut self.passengers, i as usize - 1, j as usize - 1);
         self.passengers[i as usize - 1] = None;
     }
 

@@ -28,20 +28,8 @@ pub fn with_bit(word: u32, i: u32, set: bool) -> u32
     if set { word | bit } else { word & !bit }
 }
 
-/// The word after what a stage has went to the stage above, which had nothing: bit i - 1 goes to bit i.
-// One addition moves the bit, since the bit above is not set and no carry goes further.
-#[inline(always)]
-pub(crate) fn raised(word: u32, i: u32) -> u32
-    requires above { 0 < i }
-    requires within { i < 32 }
-    requires set { is_bit_set word (i - 1) ≡ true }
-    requires clear { is_bit_set word i ≡ false }
-    ensures { result ≡ with_bit_put (with_bit_put word (i - 1) false) i true }
-{
-    word + (1 << (i - 1))
-}
-
 /// The word after what a stage has went to the stage below, which had nothing: bit i - 1 goes to bit i - 2.
+// One subtraction moves the bit, since the bit below is not set and nothing is borrowed from further up.
 #[inline(always)]
 pub(crate) fn lowered(word: u32, i: u32) -> u32
     requires above { 1 < i }

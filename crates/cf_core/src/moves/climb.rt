@@ -66,7 +66,7 @@ impl Processor {
 
     /// The instruction of the stage moves one stage up.
     #[inline(always)]
-    #[tactic(auto, unfolding(cf_stages::specs::Changes::climbs, cf_stages::specs::Changes::cells_climbed, cf_semantics::specs::moves::Moves::moved))]
+    #[tactic(auto, unfolding(cf_stages::specs::Changes::climbs, cf_stages::specs::Changes::cells_lifted, cf_semantics::specs::moves::Moves::moved))]
     pub(crate) fn climb(&mut self, i: u32)
         requires { row_bar self.old.plan self.old.state (mv.Climb i) ≡ None }
         ensures { self.new ≡ after_move self.old (mv.Climb i) }
