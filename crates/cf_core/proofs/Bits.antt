@@ -15,7 +15,7 @@ use Rattle.cf_core.specs.declared.marks.Marks.{Marks}
 use Rattle.cf_core.specs.declared.touching.Touched.{Touched}
 
 -- a test that differs at one stage
-word_at : (test other : ℕ → Bool) (n i : ℕ) → n ≤ 32 → 0 < i → i ≤ n → ((k : ℕ) → k ≢ i → other k ≡ test k) →
+pub word_at : (test other : ℕ → Bool) (n i : ℕ) → n ≤ 32 → 0 < i → i ≤ n → ((k : ℕ) → k ≢ i → other k ≡ test k) →
     word_of other n ≡ with_bit (word_of test n) (i - 1) (other i)
 word_at test other n zero few low within same = absurd (omega arith)
 word_at test other n (suc k) few low within same =

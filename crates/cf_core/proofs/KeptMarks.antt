@@ -114,9 +114,9 @@ made_same old new mv before after (Err fault.Read) free h keeps = rest-same old.
 made_same old new mv before after (Err fault.Write) free h keeps = rest-same old.plan old.state new.state (ap (λ (p : Processor). p.state.cells) h.1.processor)
     (ap (λ (p : Processor). p.state.sidings) h.1.processor)
 
-marks_same : (plan : Plan) (s t : State) → Same plan s t → marks_of plan s ≡ marks_of plan t
+pub marks-same : (plan : Plan) (s t : State) → Same plan s t → marks_of plan s ≡ marks_of plan t
 unfolding marks_of
-marks_same plan s t same =
+marks-same plan s t same =
     let word = λ (field : StageMark → Bool). word-agrees (λ k. field (mark_at plan s k)) (λ k. field (mark_at plan t k)) plan.stages
     (λ k low high. sym (ap field (same k))) in
     let owes = word (λ m. m.owes) in
@@ -131,4 +131,4 @@ pub kept-marks : (old new : Processor) (marks : Marks) (mv : Move) (before after
     marks ≡ marks_of old.plan old.state → keeps_marks old.plan old.state mv ≡ true → marks ≡ marks_of new.plan new.state
 kept-marks old new marks mv before after r free made is keeps =
     let row = unbarred old.plan old.state mv free in
-    rw (is, same-plan old new mv before after r made) (marks_same old.plan old.state new.state (made_same old new mv before after r row made keeps))
+    rw (is, same-plan old new mv before after r made) (marks-same old.plan old.state new.state (made_same old new mv before after r row made keeps))

@@ -23,5 +23,8 @@ pub mod RunsBack
 pub mod Widths
 pub mod OldOps
 pub mod Rides
+pub mod Blocks
+pub mod Lifts
+pub mod LiftedMarks
 pub mod StillMarks
 pub mod Tabled

@@ -90,11 +90,16 @@ in_turn : (a b c : Bool) → (a && b && c) ≡ (a && (b && c))
 in_turn true b c = refl
 in_turn false b c = refl
 
+pub stops-by-siding : (plan : Plan) (i k : ℕ) (p : Passenger) → siding_of plan (kind p) ≡ Some k →
+    stops_at plan p i ≡ ((is_out p && (recover_stage plan k == i)) || (is_undone p && (not p.launched && (launch_stage plan k == i))))
+stops-by-siding plan i k p at =
+    rw at (ap (λ (b : Bool). (is_out p && (recover_stage plan k == i)) || b) (in_turn (is_undone p) (not p.launched) (launch_stage plan k == i)))
+
 pub stops-siding : (plan : Plan) (s : State) (i k : ℕ) (p : Passenger) → passenger_at s.cells i ≡ Some p → siding_of plan (kind p) ≡ Some k →
     stops_there plan s i ≡ ((is_out p && (recover_stage plan k == i)) || (is_undone p && (not p.launched && (launch_stage plan k == i))))
 stops-siding plan s i k p e at =
     let h = here-by (cell_at s.cells i) p e in
-    rw (h.1, h.2, at) (ap (λ (b : Bool). (is_out p && (recover_stage plan k == i)) || b) (in_turn (is_undone p) (not p.launched) (launch_stage plan k == i)))
+    rw (h.1, h.2) (stops-by-siding plan i k p at)
 
 by_units : (launched back undone ends : Bool) → ((launched && back && false) || (undone && not launched && (ends || false)))
     ≡ (undone && (not launched && ends))
@@ -106,11 +111,15 @@ by_units true true true ends = refl
 by_units true false false ends = refl
 by_units true false true ends = refl
 
+pub stops-by-units : (plan : Plan) (i : ℕ) (p : Passenger) → siding_of plan (kind p) ≡ None →
+    stops_at plan p i ≡ (is_undone p && (not p.launched && (last_stage plan (kind p) == i)))
+stops-by-units plan i p at = rw at (by_units p.launched (not p.recovered) (is_undone p) (last_stage plan (kind p) == i))
+
 pub stops-units : (plan : Plan) (s : State) (i : ℕ) (p : Passenger) → passenger_at s.cells i ≡ Some p → siding_of plan (kind p) ≡ None →
     stops_there plan s i ≡ (is_undone p && (not p.launched && (last_stage plan (kind p) == i)))
 stops-units plan s i p e at =
     let h = here-by (cell_at s.cells i) p e in
-    rw (h.1, h.2, at) (by_units p.launched (not p.recovered) (is_undone p) (last_stage plan (kind p) == i))
+    rw (h.1, h.2) (stops-by-units plan i p at)
 
 -- without a siding nothing is launched, and nothing comes back
 no_launch : (dead done launched full : Bool) (rest : Option Bar) →
@@ -189,6 +198,11 @@ no_exit site launched recovered rest e = rw (recover_row site launched recovered
 no_stop : (out back undone launched site : Bool) → out ≡ false → undone ≡ false → false ≡ ((out && back) || (undone && not launched && site))
 no_stop out back undone launched site e f = rw (e, f) refl
 
+pub stops-idle : (plan : Plan) (i : ℕ) (p : Passenger) → is_idle p ≡ true → stops_at plan p i ≡ false
+stops-idle plan i p idle =
+    let parts = idle_parts p.dead p.done p.launched p.recovered idle in
+    sym (no_stop (is_out p) (recovers plan (kind p) i) (is_undone p) p.launched _ parts.1 parts.0)
+
 pub mark-idle : (plan : Plan) (s : State) (i : ℕ) (p : Passenger) → passenger_at s.cells i ≡ Some p → is_idle p ≡ true →
     record no_mark { owes = is_some p.owes } ≡ mark_at plan s i
 unfolding mark_at
@@ -196,7 +210,7 @@ mark-idle plan s i p e idle =
     let h = here-by (cell_at s.cells i) p e in
     let parts = idle_parts p.dead p.done p.launched p.recovered idle in
     let owes = owes-here s i p e in
-    let stops : false ≡ stops_there plan s i = rw (h.1, h.2) (no_stop (is_out p) (recovers plan (kind p) i) (is_undone p) p.launched _ parts.1 parts.0) in
+    let stops : false ≡ stops_there plan s i = rw (h.1, h.2) (sym (stops-idle plan i p idle)) in
     let execute : false ≡ row_allows plan s (Execute i) = rw (h.1, h.2) (no_unit p.dead p.done (unit_at plan (kind p) i) (source_bar p None) parts.0) in
     let launch : false ≡ row_allows plan s (Launch i) = rw (h.1, h.2) (no_entry p.dead p.done p.launched (launches plan (kind p) i) (is_memory (kind p)
     && is_full (record h.0 { passenger = Some p })) (source_bar p (entry_bar plan s p)) parts.0) in

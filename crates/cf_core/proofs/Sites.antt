@@ -49,7 +49,7 @@ at_stage plan s i f h free =
     one_within plan i t.0 t.1
 
 -- the stages of a siding that exists are stages of the pipeline
-siding_within : (plan : Plan) (k : ℕ) → IsAccepted plan → k < length plan.sidings → Within plan (sites plan k)
+pub siding_within : (plan : Plan) (k : ℕ) → IsAccepted plan → k < length plan.sidings → Within plan (sites plan k)
 unfolding launch_stage recover_stage
 siding_within plan k a within =
     let rules : IsSiding plan (layout.siding_plan_at plan k) = of_plan plan.sidings k within a.sidings in

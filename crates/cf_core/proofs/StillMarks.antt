@@ -228,6 +228,18 @@ blank_same plan s i b c here before after =
 climb_tests : (plan : Plan) (c d : Cell) (i : ℕ) (p : Passenger) → c.passenger ≡ Some p → climb_bar plan c i (Some d) ≡ None → d.passenger ≡ None
 climb_tests plan c d i p e free = grind arith
 
+-- an instruction that is spent goes to another stage
+pub lift-keeps : (plan : Plan) (s : State) (i j : ℕ) (c d : Cell) (p : Passenger) → j ≢ i → cell_at s.cells i ≡ Some c → cell_at s.cells j ≡ Some d →
+    c.passenger ≡ Some p → d.passenger ≡ None → is_spent p ≡ true →
+    Same plan s (with_cell (with_cell s i (without_passenger c)) j (record d { passenger = c.passenger; met = false }))
+lift-keeps plan s i j c d p off e f rides room spent =
+    let t = with_cell s i (without_passenger c) in
+    let to : Cell = record d { passenger = c.passenger; met = false } in
+    let first = blank_same plan s i c (without_passenger c) e (rw rides spent) refl in
+    let free : is_blank d.passenger ≡ true = rw room refl in
+    let second = blank_same plan t j d to (cell-put-other s.cells i j (without_passenger c) off ∙ f) free (rw rides spent) in
+    both plan s t (with_cell t j to) first second
+
 climb_keeps : (plan : Plan) (s : State) (i : ℕ) → row_bar plan s (Climb i) ≡ None → on (cell_at s.cells i) false (λ c. on c.passenger false is_spent) ≡ true →
     Same plan s (moved plan s (Climb i))
 unfolding moved
@@ -237,13 +249,8 @@ climb_keeps plan s i free spent = by_cells (cell_at s.cells i) (cell_at s.cells 
         climb_bar plan c i (Some d) ≡ None → on o false is_spent ≡ true → Same plan s (climbed s i c d)
     by_rider c d None e f rides row spent = absurd (cc)
     by_rider c d (Some p) e f rides row spent =
-        let t = with_cell s i (without_passenger c) in
         let off : i + 1 ≢ i = λ g. absurd (omega (arith, g)) in
-        let first = blank_same plan s i c (without_passenger c) e (rw rides spent) refl in
-        let free : is_blank d.passenger ≡ true = rw (climb_tests plan c d i p rides row) refl in
-        let second = blank_same plan t (i + 1) d (record d { passenger = c.passenger; met = false }) (cell-put-other s.cells i (i + 1) (without_passenger c) off
-        ∙ f) free (rw rides spent) in
-        both plan s t (climbed s i c d) first second
+        lift-keeps plan s i (i + 1) c d p off e f rides (climb_tests plan c d i p rides row) spent
 
     by_cells : (o a : Option Cell) → cell_at s.cells i ≡ o → cell_at s.cells (i + 1) ≡ a → on o (Some NoSuchSite) (λ c. climb_bar plan c i a) ≡ None →
         on o false (λ c. on c.passenger false is_spent) ≡ true → Same plan s (on o s (λ c. on a s (climbed s i c)))

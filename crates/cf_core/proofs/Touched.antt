@@ -55,13 +55,17 @@ unfolding moved
 emit-but plan s = where_there plan s plan.stages plan.stages (cell_at s.cells plan.stages) (emitted s plan.stages s.lane)
     (λ c e. emitted_but plan s plan.stages s.lane c)
 
+-- two stages get other contents
+pub two-but : (plan : Plan) (s : State) (i j : ℕ) (c d : Cell) → SameBut plan s (with_cell (with_cell s i c) j d) i j
+two-but plan s i j c d =
+    let t = with_cell s i c in
+    both plan s t (with_cell t j d) i j (cell-but plan s i j c) (swapped plan t (with_cell t j d) j i (cell-but plan t j i d))
+
 climb-but : (plan : Plan) (s : State) (i : ℕ) → SameBut plan s (moved plan s (Climb i)) i (i + 1)
 unfolding moved
 climb-but plan s i =
     where_there plan s i (i + 1) (cell_at s.cells i) _ (λ c e. where_there plan s i (i + 1) (cell_at s.cells (i + 1)) (climbed s i c) (λ d f.
-    let t = with_cell s i (without_passenger c) in
-    both plan s t (climbed s i c d) i (i + 1) (cell-but plan s i (i + 1) (without_passenger c))
-    (swapped plan t (climbed s i c d) (i + 1) i (cell-but plan t (i + 1) i _))))
+    two-but plan s i (i + 1) (without_passenger c) (record d { passenger = c.passenger; met = false })))
 
 fall-but : (plan : Plan) (s : State) (i : ℕ) → SameBut plan s (moved plan s (Fall i)) (i - 1) i
 unfolding moved

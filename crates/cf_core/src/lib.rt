@@ -3,6 +3,7 @@
 
 mod back;
 mod before;
+mod climbing;
 mod counterflow;
 mod draining;
 mod fault;

@@ -1,0 +1,149 @@
+//! An instruction climbs on: all its moves up to the stage at which it is stopped, made at once.
+
+ghost use Rattle.std.specs.Prelude.{◌≡◌, ◌-◌, ◌<◌, ◌≤◌, IsNone, IsSome, None, Some};
+ghost use Rattle.cf_bind.specs.declared.moves.Move.TheVariants as mv;
+ghost use Rattle.cf_layout.specs.Layout.{last_stage, siding_of};
+ghost use Rattle.cf_semantics.specs.moves.Bars.{bar as first_bar, stops_at};
+ghost use Rattle.cf_semantics.specs.state.Passengers.{kind as kind_of_passenger};
+ghost use Rattle.cf_stages.specs.Changes.{cells_lifted, passenger_at};
+ghost use Rattle.cf_stages.specs.Words.{word_of};
+ghost use Rattle.cf_core.specs.Climbing.{ClimbsTo, IsFirstBlock, climbed, is_blocked_at};
+ghost use Rattle.cf_core.specs.Places.{with_cells};
+ghost use Rattle.cf_core.specs.Processors.{IsProcessor};
+ghost use Rattle.cf_core.specs.Stations.{AreSidingStages};
+
+use crate::counterflow::Core;
+use crate::processor::Processor;
+use crate::riding::{is_idle, is_out, is_undone};
+use crate::stations::SidingStages;
+use crate::touching::Touched;
+use cf_bind::Passenger;
+use cf_passengers::kind;
+use cf_stages::with_bit;
+
+impl Processor {
+    /// The stage at which the instruction must not climb on, because its siding recovers or launches there: bit i - 1 for stage i.
+    #[inline(always)]
+    #[tactic(auto, using(crate::proofs::Blocks::sides))]
+    fn siding_stops(&self, passenger: &Passenger, site: SidingStages) -> u32
+        requires site { AreSidingStages self.now.plan (kind_of_passenger passenger.now) site }
+        ensures { result ≡ word_of (stops_at self.now.plan passenger.now) self.now.plan.stages }
+    {
+        self.know_stages();
+        if is_out(passenger) {
+            with_bit(0, site.recover, true)
+        } else {
+            with_bit(0, site.launch, is_undone(passenger) && !passenger.launched)
+        }
+    }
+
+    /// The stage at which the instruction must not climb on, because it is the last with a unit of its class: bit i - 1 for
+    /// stage i. Its class has no siding.
+    #[inline(always)]
+    #[tactic(auto, using(crate::proofs::Blocks::lasts))]
+    fn unit_stops(&self, passenger: &Passenger, last: u32) -> u32
+        requires units { siding_of self.now.plan (kind_of_passenger passenger.now) ≡ None }
+        requires last { last ≡ last_stage self.now.plan (kind_of_passenger passenger.now) }
+        ensures { result ≡ word_of (stops_at self.now.plan passenger.now) self.now.plan.stages }
+    {
+        self.know_stages();
+        with_bit(0, last, is_undone(passenger) && !passenger.launched)
+    }
+
+    /// The stages at which the instruction must not climb on, by what it has still to do: bit i - 1 for stage i.
+    #[inline(always)]
+    #[tactic(auto, using(crate::proofs::Blocks::idling, crate::proofs::Tabled::sites, crate::proofs::Tabled::fields))]
+    fn stops_of(&self, passenger: &Passenger) -> u32
+        ensures { result ≡ word_of (stops_at self.now.plan passenger.now) self.now.plan.stages }
+    {
+        if is_idle(passenger) {
+            return 0;
+        }
+        let station = self.station(kind(passenger));
+        match station.siding {
+            Some(site) => self.siding_stops(passenger, site),
+            None => self.unit_stops(passenger, station.last),
+        }
+    }
+
+    /// The stages at which the instruction is blocked, were it there: bit i - 1 for stage i.
+    #[inline(always)]
+    fn blocks(&self, passenger: &Passenger) -> u32
+        requires { IsProcessor self.now.plan self.now.state }
+        ensures { result ≡ word_of (is_blocked_at self.now.plan self.now.state passenger.now) self.now.plan.stages }
+    {
+        self.know_stages();
+        let below_another = self.stages.passengers() >> 1;
+        let highest = with_bit(0, self.stages.count(), true);
+        self.stages.packets() | below_another | highest | self.stops_of(passenger)
+    }
+
+    /// The first stage above this one at which the instruction is blocked.
+    #[inline(always)]
+    #[tactic(auto, using(crate::proofs::Blocks::blocking))]
+    fn first_block(&self, passenger: &Passenger, i: u32) -> u32
+        requires facts { IsProcessor self.now.plan self.now.state }
+        requires below { i < self.now.plan.stages }
+        ensures { IsFirstBlock self.now.plan self.now.state passenger.now i result }
+    {
+        self.know_stages();
+        i + 1 + (self.blocks(passenger) >> i).trailing_zeros()
+    }
+
+    /// The stage that the instruction of stage i comes to if it climbs as far as it can.
+    #[inline(always)]
+    fn reach(&self, i: u32) -> u32
+        requires facts { IsProcessor self.now.plan self.now.state }
+        requires allowed { first_bar self.now.plan self.now.state (mv.Climb i) ≡ None }
+        ensures above { 0 < i }
+        ensures order { i < result }
+        ensures within { result ≤ self.now.plan.stages }
+        ensures there { IsSome (passenger_at self.now.state.cells i) }
+        ensures room { IsNone (passenger_at self.now.state.cells result) }
+        ensures climbs { ClimbsTo self.now i result }
+        ensures cells { climbed self.now i (result - i) ≡ with_cells self.now (cells_lifted self.now.state.cells i result) }
+    {
+        match self.stages.passenger(i) {
+            Some(passenger) => self.first_block(passenger, i),
+            None => unreachable!(),
+        }
+    }
+
+    /// Lets the instruction of the stage climb as far as it can, and answers the stage that it comes to.
+    // Nothing is in the stages between, so that they are as they were once it has passed them.
+    #[inline(always)]
+    fn climb_on(&mut self, i: u32) -> u32
+        requires facts { IsProcessor self.old.plan self.old.state }
+        requires allowed { first_bar self.old.plan self.old.state (mv.Climb i) ≡ None }
+        ensures above { 0 < i }
+        ensures within { result ≤ self.old.plan.stages }
+        ensures room { IsNone (passenger_at self.old.state.cells result) }
+        ensures climbs { ClimbsTo self.old i result }
+        ensures cells { self.new ≡ with_cells self.old (cells_lifted self.old.state.cells i result) }
+        ensures processor { self.new ≡ climbed self.old i (result - i) }
+    {
+        let to = self.reach(i);
+        self.stages.lift(i, to);
+        to
+    }
+}
+
+impl Core {
+    /// Lets the instruction of the stage climb on, move after move, as far as it can, and answers the stage that it comes to.
+    #[inline(always)]
+    pub fn climb_on(&mut self, i: u32) -> u32
+        requires { first_bar self.old.plan self.old.state (mv.Climb i) ≡ None }
+        ensures climbs { ClimbsTo self.old i result }
+        ensures processor { self.new ≡ climbed self.old i (result - i) }
+    {
+        let spent = self.processor.is_spent_at(i);
+        let to = self.processor.climb_on(i);
+        if spent {
+            return to;
+        }
+        self.marks = self
+            .processor
+            .remarked(self.marks, Touched { low: i, high: to });
+        to
+    }
+}
