@@ -9,7 +9,7 @@ ghost use Rattle.cf_semantics.specs.moves.Events.{IsEvent};
 ghost use Rattle.mem_regions.specs.Access.{bounds_of};
 ghost use Rattle.cf_layout.specs.Layout.{cells_of};
 ghost use Rattle.cf_semantics.specs.state.State.{cell_at, siding_at};
-ghost use Rattle.cf_semantics.specs.state.Layouts.{isa_of};
+ghost use Rattle.cf_semantics.specs.state.Layouts.{isa_of as set_of};
 ghost use Rattle.cf_semantics.specs.state.Passengers.{cached as kept_value};
 ghost use Rattle.cf_core.specs.Asking.{AsksInput, AsksOutput};
 ghost use Rattle.cf_core.specs.Processors.{after_move, opened_processor, IsOp, IsProcessor, IsCellOfSet};
@@ -24,10 +24,12 @@ use cf_bind::{Bar, Cell, End, Fetch, Move, Op};
 use cf_ends::Ends;
 use cf_io::{Sink, Source};
 use cf_layout::Layout;
+use cf_passengers::isa_of;
 use cf_semantics::Event;
 use cf_sidings::Sidings;
 use cf_stages::Stages;
 use mem_regions::Regions;
+use rv_inst::Isa;
 use rv_machine::Machine;
 use std::alloc::{AllocError, Global};
 use std::marker::Model;
@@ -65,6 +67,7 @@ impl Core {
         ensures { IfOk result (λ core. core ≡ opened_processor layout machine) }
     {
         let stations = stations_of(&layout);
+        let isa = isa_of(&layout);
         let stages = Stages::new(alloc, layout.stages())?;
         let sidings = Sidings::new(alloc, &layout)?;
         let parts = machine.into_parts();
@@ -73,6 +76,7 @@ impl Core {
             processor: Processor {
                 layout,
                 stations,
+                isa,
                 stages,
                 sidings,
                 ends,
@@ -94,6 +98,14 @@ impl Core {
         &self.processor.layout
     }
 
+    /// The instruction set of the layout.
+    #[inline(always)]
+    pub fn isa(&self) -> Isa
+        ensures { result ≡ set_of self.now.plan }
+    {
+        self.processor.isa
+    }
+
     /// What is in the stage of this number, counted from 1 at the bottom.
     #[inline(always)]
     #[tactic(auto, using(crate::proofs::Cells::reading))]
@@ -101,7 +113,7 @@ impl Core {
         requires above { 0 < i }
         requires within { i ≤ self.now.plan.stages }
         ensures cell { Some result ≡ cell_at self.now.state.cells i }
-        ensures facts { IsCellOfSet (isa_of self.now.plan) result }
+        ensures facts { IsCellOfSet (set_of self.now.plan) result }
     {
         self.processor.stages.cell(i)
     }

@@ -9,15 +9,18 @@ use cf_layout::Layout;
 use cf_sidings::Sidings;
 use cf_stages::Stages;
 use mem_regions::Regions;
+use rv_inst::Isa;
 use std::marker::Model;
 
 /// A processor: its layout, and its state in parts.
 ///
-/// Beside the layout it has the table of where each class is computed, made from the layout once.
+/// Beside the layout it has what each move would otherwise work out from it again: the table of where each class is
+/// computed, and the instruction set.
 #[derive(Drop)]
 pub(crate) struct Processor {
     pub(crate) layout: Layout,
     pub(crate) stations: [Station; 11],
+    pub(crate) isa: Isa,
     pub(crate) stages: Stages,
     pub(crate) sidings: Sidings,
     pub(crate) ends: Ends,
@@ -29,6 +32,7 @@ pub(crate) struct Processor {
 
 impl Model for Processor {
     ghost use Rattle.std.specs.Prelude.{◌≡◌};
+    ghost use Rattle.cf_semantics.specs.state.Layouts.{isa_of};
     ghost use Rattle.cf_core.specs.Processors.{Processor as Whole};
     ghost use Rattle.cf_core.specs.Stations.{stations_of};
 
@@ -36,7 +40,7 @@ impl Model for Processor {
 
     ghost view = { λ p. record { plan = p.layout; state = record { cells = p.stages; sidings = p.sidings; lane = p.ends.lane; fetch = p.ends.fetch; cache = p.ends.cache; regs = p.ends.regs; mem = p.memory; retired = p.retired; ending = p.ending; failed = p.failed } } };
 
-    ghost invariant = { λ p. (p.ends.room ≡ p.layout.lane) × (p.stations ≡ stations_of p.layout) };
+    ghost invariant = { λ p. (p.ends.room ≡ p.layout.lane) × ((p.stations ≡ stations_of p.layout) × (p.isa ≡ isa_of p.layout)) };
 }
 
 impl Processor {

@@ -20,7 +20,7 @@ use crate::issuing::Issuable;
 use crate::processor::Processor;
 use crate::rows::first_of;
 use cf_bind::{Bar, Binding, Fetch, Guess, Passenger};
-use cf_passengers::{RequestedSources, fetched, fresh, goto, isa_of, may_guess, requests};
+use cf_passengers::{RequestedSources, fetched, fresh, goto, may_guess, requests};
 
 /// Fetch at the address; if there is none, fetch waits.
 #[inline(always)]
@@ -40,7 +40,7 @@ impl Processor {
         ensures passenger { result ≡ issued_there self.now.plan self.now.state pc guess }
         ensures facts { IsPassenger (set_of self.now.plan) result }
     {
-        let instruction = fetched(isa_of(&self.layout), &self.memory, pc);
+        let instruction = fetched(self.isa, &self.memory, pc);
         fresh(&self.ends, instruction, pc, guess)
     }
 

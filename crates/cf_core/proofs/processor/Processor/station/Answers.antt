@@ -7,5 +7,5 @@ use Rattle.cf_core.proofs.processor.Processor.station.Goals as goal
 
 pub returns : goal.returns
 returns c =
-    station-read c.self.inside.layout c.args.class c.self.inside.stations c.index.result _ c.self.invariant.1 c.index.ensures.index
+    station-read c.self.inside.layout c.args.class c.self.inside.stations c.index.result _ c.self.invariant.1.0 c.index.ensures.index
     ∙ ap (λ (p : Processor). station_of p.plan c.args.class) c.self.view_is
