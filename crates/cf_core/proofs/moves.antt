@@ -8,6 +8,7 @@ pub mod KeptMoves
 pub mod KeptServe
 pub mod Guesses
 pub mod Meetings
+pub mod Riding
 pub mod Sending
 pub mod Entering
 pub mod Returning

@@ -14,7 +14,7 @@ use Rattle.cf_stages.specs.Parts.{AreParts, all_cells, with_place}
 use Rattle.cf_stages.specs.Words.{word_where, with_bit}
 use Rattle.cf_stages.proofs.Bits.{bit-other, bit-same}
 use Rattle.cf_stages.proofs.Cells.{cell-in, cells-put}
-use Rattle.cf_stages.proofs.Parts.{cell-parts, length-cells, put-parts, set-same, word-put, word-put-same}
+use Rattle.cf_stages.proofs.Parts.{cell-parts, length-cells, put-parts, set-same, stage-high, stage-low, word-put, word-put-same}
 
 -- what is at an index
 record There {A : Type 0} (xs : List A) (j : ℕ) : Type 0 where
@@ -185,8 +185,6 @@ pub ruleset coming_and_going = (passenger-placed, passenger-parts)
 
 pub ruleset replacing = (packet-placed, packet-parts)
 
-pub ruleset renewing = (passenger-renewed, renewed-parts)
-
 -- what was read of a stage
 at_index : {A : Type 0} (xs : List A) (k : ℕ) (x : A) → k < length xs → x ≡ slice_index_or xs k x → slice_get xs k ≡ Some x
 at_index xs k x within e = slice_get-get_or xs k x within ∙ ap Some (sym e)
@@ -245,6 +243,14 @@ least-read ps qs riding flying met h = let n = length-cells 0 ps qs met h.pipes 
 pub pipes-read : (ps : List (Option Passenger)) (qs : List (Option Packet)) (riding flying met : ℕ) → AreParts ps qs riding flying met →
     length (all_cells ps qs met) ≡ length qs
 pipes-read ps qs riding flying met h = length-cells 0 ps qs met h.pipes ∙ sym h.pipes
+
+-- the stage of an instruction exists
+pub stage-ridden : (cells : List Cell) (i : ℕ) → IsSome (passenger_at cells i) → (0 < i) × (i ≤ length cells)
+stage-ridden cells i rides = by (cell_at cells i) refl rides
+  where
+    by : (o : Option Cell) → cell_at cells i ≡ o → IsSome (on o None (λ c. c.passenger)) → (0 < i) × (i ≤ length cells)
+    by None here rides = absurd (cc)
+    by (Some c) here rides = (stage-low cells i c here, stage-high cells i c here)
 
 -- a stage of those that are seen has its entry in each pipe
 pub within-pipe : (ps : List (Option Passenger)) (qs : List (Option Packet)) (riding flying met i : ℕ) (now : List Cell) → AreParts ps qs riding flying met →

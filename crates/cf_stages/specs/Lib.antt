@@ -1,4 +1,5 @@
 pub mod Changes
 pub mod Contents
+pub mod Lending
 pub mod Parts
 pub mod Words

@@ -2,7 +2,7 @@
 
 ghost use Rattle.std.specs.Prelude.{◌≡◌, ◌<◌, ◌≤◌, IsTrue, IsSome, IsNone, None, Some, false, length};
 ghost use Rattle.cf_bind.specs.Meeting.{meeting};
-ghost use Rattle.cf_semantics.specs.moves.Moves.{without_passenger, without_packet, with_passenger};
+ghost use Rattle.cf_semantics.specs.moves.Moves.{without_passenger, without_packet};
 ghost use Rattle.cf_semantics.specs.state.Options.{on};
 ghost use Rattle.cf_stages.specs.Changes.{changed, is_full_at, met_in, packet_at, passenger_at, rider_met, with_new_passenger, with_packet};
 
@@ -42,16 +42,6 @@ impl Stages {
                 None => self.remove_packet(i),
             }
         }
-    }
-
-    /// Replaces the instruction of the stage. The result is unchanged, and so is whether the two have met.
-    #[inline(always)]
-    pub fn set_passenger(&mut self, i: u32, passenger: Passenger)
-        requires { IsSome (passenger_at self.old i) }
-        ensures stages { self.new ≡ changed self.old i (λ cell. with_passenger cell passenger) }
-        ensures count { length self.new ≡ length self.old }
-    {
-        self.renew_passenger(i, passenger);
     }
 
     /// Puts an instruction into the lowest stage, where it has met nothing.

@@ -3,6 +3,7 @@
 
 mod changes;
 mod comparing;
+mod lending;
 mod moving;
 mod places;
 mod stages;

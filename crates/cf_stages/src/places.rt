@@ -1,7 +1,6 @@
 //! One entry of a pipe gets new contents, and the bit words follow.
 
 ghost use Rattle.std.specs.Prelude.{◌≡◌, ◌-◌, ◌<◌, ◌≤◌, IsNone, IsSome, IsTrue, None, Some, false, length, slice_index_or, slice_set, true};
-ghost use Rattle.cf_semantics.specs.moves.Moves.{with_passenger};
 ghost use Rattle.cf_semantics.specs.state.Options.{is_some};
 ghost use Rattle.cf_semantics.specs.state.State.{put_cell};
 ghost use Rattle.cf_stages.specs.Changes.{IsCell, changed, cells_lifted, cells_fallen, falls, has_met_at, packet_at, passenger_at, with_new_passenger};
@@ -114,19 +113,6 @@ impl Stages {
     {
         self.packet_mask = with_bit(self.packet_mask, i, false);
         self.packets[i as usize - 1] = None;
-    }
-
-    /// Replaces the instruction of the stage by another.
-    #[inline(always)]
-    #[tactic(auto, using(crate::proofs::Kept::renewing, crate::proofs::Kept::counting))]
-    pub(crate) fn renew_passenger(&mut self, i: u32, passenger: Passenger)
-        requires above { 0 < i }
-        requires within { i ≤ length self.old }
-        requires there { IsSome (passenger_at self.old i) }
-        ensures stages { self.new ≡ changed self.old i (λ cell. with_passenger cell passenger) }
-        ensures count { length self.new ≡ length self.old }
-    {
-        self.passengers[i as usize - 1] = Some(passenger);
     }
 
     /// Puts back earlier contents of the stage.

@@ -82,7 +82,7 @@ fn emit(rt: &impl Abort, stages: &mut Stages) {
 /// The addition of 1 to 0 in a stage is executed.
 fn execute(rt: &impl Abort, stages: &mut Stages, i: u32) {
     if let Some(passenger) = cell(rt, stages, i).passenger {
-        stages.set_passenger(i, addition(passenger.pc, Some(0), Some(1)));
+        *stages.passenger_mut(i) = addition(passenger.pc, Some(0), Some(1));
     }
 }
 

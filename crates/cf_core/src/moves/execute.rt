@@ -55,14 +55,13 @@ impl Processor {
 
     /// A unit of the stage executes its instruction.
     #[inline(never)]
-    #[tactic(auto, using(cf_passengers::proofs::Computing::computing), unfolding(cf_semantics::specs::moves::Moves::moved))]
+    #[tactic(auto, using(crate::proofs::moves::Riding::riding, cf_passengers::proofs::Computing::computing), unfolding(cf_semantics::specs::moves::Moves::moved))]
     pub(crate) fn execute(&mut self, i: u32)
         requires facts { IsProcessor self.old.plan self.old.state }
         requires allowed { row_bar self.old.plan self.old.state (mv.Execute i) ≡ None }
         ensures { self.new ≡ after_move self.old (mv.Execute i) }
     {
-        if let Some(passenger) = self.stages.cell(i).passenger {
-            self.stages.set_passenger(i, finish(passenger, None));
-        }
+        let passenger = self.stages.passenger_mut(i);
+        *passenger = finish(*passenger, None);
     }
 }

@@ -126,16 +126,10 @@ impl Processor {
     {
         if let Some(passenger) = self.stages.cell(i).passenger {
             if let Some(end) = launch_trap(&passenger, &self.memory) {
-                self.stages.set_passenger(i, trapped(passenger, end));
+                *self.stages.passenger_mut(i) = trapped(passenger, end);
             } else if let Some(k) = self.layout.siding_of(kind(&passenger)) {
                 self.sidings.launch(k, operation(&passenger));
-                self.stages.set_passenger(
-                    i,
-                    Passenger {
-                        launched: true,
-                        ..passenger
-                    },
-                );
+                self.stages.passenger_mut(i).launched = true;
             }
         }
     }

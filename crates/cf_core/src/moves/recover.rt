@@ -87,7 +87,7 @@ impl Processor {
         if let Some(passenger) = self.stages.cell(i).passenger {
             if let Some(k) = self.layout.siding_of(kind(&passenger)) {
                 let op = self.sidings.recover(k);
-                self.stages.set_passenger(i, back_in(passenger, op.answer));
+                *self.stages.passenger_mut(i) = back_in(passenger, op.answer);
             }
         }
     }

@@ -7,7 +7,7 @@ ghost use Rattle.cf_core.specs.Processors.{IsProcessor, after_move};
 
 use crate::processor::Processor;
 use crate::rows::first_of;
-use cf_bind::{Bar, Passenger};
+use cf_bind::Bar;
 
 impl Processor {
     /// The first bar of Send in this stage.
@@ -28,20 +28,13 @@ impl Processor {
 
     /// The instruction of the stage sends the result that it owes.
     #[inline(never)]
-    #[tactic(auto, using(crate::proofs::moves::Sending::sending), unfolding(cf_semantics::specs::moves::Moves::moved))]
+    #[tactic(auto, using(crate::proofs::moves::Riding::riding, crate::proofs::moves::Sending::sending), unfolding(cf_semantics::specs::moves::Moves::moved))]
     pub(crate) fn send(&mut self, i: u32)
         requires { row_bar self.old.plan self.old.state (mv.Send i) ≡ None }
         ensures { self.new ≡ after_move self.old (mv.Send i) }
     {
-        if let Some(passenger) = self.stages.cell(i).passenger {
-            if let Some(packet) = passenger.owes {
-                let owing_nothing = Passenger {
-                    owes: None,
-                    ..passenger
-                };
-                self.stages.set_passenger(i, owing_nothing);
-                self.stages.put_packet(i, packet, true);
-            }
+        if let Some(packet) = self.stages.passenger_mut(i).owes.take() {
+            self.stages.put_packet(i, packet, true);
         }
     }
 }

@@ -106,7 +106,7 @@ impl Processor {
         ensures { self.new ≡ synchronized self.old passenger }
     {
         self.memory.sync_code();
-        self.stages.set_passenger(stage, answered(passenger, 0));
+        *self.stages.passenger_mut(stage) = answered(passenger, 0);
     }
 
     /// The instruction in the highest stage takes what the environment answered.
@@ -119,11 +119,11 @@ impl Processor {
     {
         match served {
             Served::Value(value) => {
-                self.stages.set_passenger(stage, answered(passenger, value));
+                *self.stages.passenger_mut(stage) = answered(passenger, value);
                 Ok(())
             }
             Served::Exit(status) => {
-                self.stages.set_passenger(stage, quits(passenger, status));
+                *self.stages.passenger_mut(stage) = quits(passenger, status);
                 Ok(())
             }
             Served::ReadFault => {
