@@ -12,6 +12,7 @@ use Rattle.cf_semantics.specs.moves.Moves.{next}
 use Rattle.cf_semantics.specs.state.State.{State, Moment, cell_at}
 use Rattle.cf_bind.specs.declared.cell.Cell.{Cell}
 use Rattle.theory_confluence.proofs.Laws.{move_local}
+use Rattle.theory_confluence.proofs.sites.Independent.{bar_after}
 use Rattle.theory_refinement.proofs.moves.Rows.{bar_row}
 use Rattle.cf_index.specs.Sites.{shares, used, uses_place}
 use Rattle.cf_index.proofs.SharedSites.{found, shared_at, shared_place}
@@ -135,7 +136,7 @@ either true b e = inl refl
 either false b e = inr e
 
 -- the stage at which a move launches or recovers is the first or above it
-abbrev HasStage : Move → Type 0
+abbrev pub HasStage : Move → Type 0
 HasStage (Launch i) = 1 ≤ i
 HasStage (Recover i) = 1 ≤ i
 HasStage mv = Unit {0}
@@ -379,3 +380,12 @@ apart_neighbours plan m a b h free after first second apart =
     (record { staged = has_stage plan m.state a free; plain = first })
     (record { staged = has_stage plan (next plan m a).state b after; plain = plain_before plan m a b h free first apart second })
     apart (unshared_back plan a b apart)
+
+-- what bars a move stays the same, if a move is made that has no place in common with it, and neither is made alone
+pub bar_kept : (plan : Plan) (m : Moment) (a b : Move) → HasSidings plan m.state → bar plan m.state a ≡ None → HasStage b →
+    stands_alone plan m.state a ≡ false → stands_alone plan m.state b ≡ false → shares plan a b ≡ false → bar plan (next plan m a).state b ≡ bar plan m.state b
+bar_kept plan m a b h free staged first second apart =
+    sym (bar_after plan m a b (apart_independent plan m.state a b h
+    (record { staged = has_stage plan m.state a free; plain = first })
+    (record { staged = staged; plain = second })
+    apart (unshared_back plan a b apart)) free)

@@ -30,3 +30,8 @@ pub mod StartsOver
 pub mod KnownMoves
 pub mod EmptySidings
 pub mod PackedWords
+pub mod LowestBits
+pub mod LeftStages
+pub mod LeftFalls
+pub mod LeftClimbs
+pub mod LowestNext

@@ -78,10 +78,10 @@ lowest w some small =
     filter_first (has_bit w) 0 64 (trailing_zeros w64 w) (omega arith) (omega (arith, t.0)) (rw (t.1) refl) (λ i low high. rw (t.2 i high) refl)
 
 -- a word without its lowest bit has the numbers after the lowest
-odd_less : (m : ℕ) → bit_and (m * 2 ^ 1 + 1) (m * 2 ^ 1 + 1 - 1) ≡ m * 2 ^ 1 + 0
+pub odd_less : (m : ℕ) → bit_and (m * 2 ^ 1 + 1) (m * 2 ^ 1 + 1 - 1) ≡ m * 2 ^ 1 + 0
 odd_less m = let e : m * 2 ^ 1 + 1 - 1 ≡ m * 2 ^ 1 + 0 = omega arith in rw (e, and_block 1 m m 1 0 (omega arith) (omega arith), and_self m) refl
 
-even_less : (m : ℕ) → bit_and (suc m * 2 ^ 1 + 0) (suc m * 2 ^ 1 + 0 - 1) ≡ bit_and (suc m) (suc m - 1) * 2 ^ 1 + 0
+pub even_less : (m : ℕ) → bit_and (suc m * 2 ^ 1 + 0) (suc m * 2 ^ 1 + 0 - 1) ≡ bit_and (suc m) (suc m - 1) * 2 ^ 1 + 0
 even_less m = let e : suc m * 2 ^ 1 + 0 - 1 ≡ m * 2 ^ 1 + 1 = omega arith in let f : suc m - 1 ≡ m = omega arith in
     rw (e, f, and_block 1 (suc m) m 0 1 (omega arith) (omega arith)) refl
 

@@ -4,6 +4,7 @@ use Rattle.std.specs.Prelude.{◌&&◌, if◌then◌else◌, nat_eq, not, slice_
 use Rattle.std.specs.Int.{bit_at}
 use Rattle.std.proofs.lemmas.Bool.Decides.{nat_tests}
 use Rattle.std.proofs.lemmas.Nat.Bits.{bit_at-lt, same_from_bits}
+use Rattle.std.proofs.lemmas.Option.{slice_get_within}
 use Rattle.cf_bind.specs.declared.cell.Cell.{Cell}
 use Rattle.cf_bind.specs.declared.moves.Bar.{Bar}
 use Rattle.cf_bind.specs.declared.moves.Bar.TheVariants.{NoPacket, NoPassenger, NoSuchSite, NotDone, NotMet, Occupied, Owes}
@@ -13,10 +14,13 @@ use Rattle.cf_bind.specs.declared.passenger.Passenger.{Passenger}
 use Rattle.cf_layout.specs.Layout.{Plan}
 use Rattle.cf_layout.specs.Words.{has_bit}
 use Rattle.cf_semantics.specs.moves.Bars.{bar, climb_bar, emit_bar, exit_bar, fall_bar, first, first_bar_of, is_full, leave_bar, meet_bar, row_bar, send_bar, serve_bar, stops_at}
+use Rattle.cf_semantics.specs.moves.Moves.{moved, without_packet}
 use Rattle.cf_semantics.specs.state.Options.{on, is_some}
-use Rattle.cf_semantics.specs.state.State.{State, cell_at}
+use Rattle.cf_semantics.specs.state.State.{State, cell_at, put_cell}
 use Rattle.cf_stages.specs.Words.{word_of}
+use Rattle.theory_refinement.proofs.moves.Rows.{bar_row}
 use Rattle.cf_stages.proofs.Bits.{word-bit, word-bit-above}
+use Rattle.cf_stages.proofs.Parts.{cell-put, cell-put-other}
 use Rattle.cf_core.specs.Masks.{masks_of, stops_there}
 use Rattle.cf_core.specs.declared.masks.Masks.{Masks}
 use Rattle.cf_core.proofs.Masked.{allowed-as}
@@ -175,6 +179,45 @@ send_row : (o : Option Cell) → not (is_some (on o (Some NoSuchSite) send_bar))
 unfolding owing flying
 send_row None = refl
 send_row (Some c) = grind arith
+
+-- One stage after another --
+
+-- a move that its row bars is not allowed
+barred_row : (plan : Plan) (s : State) (mv : Move) → not (is_some (row_bar plan s mv)) ≡ false → is_allowed plan s mv ≡ false
+barred_row plan s mv off =
+    allowed-as plan s mv (is_some s.ending) s.failed refl refl ∙ ap (λ (b : Bool). goes_on s && b) off ∙ none (goes_on s)
+  where
+    none : (b : Bool) → (b && false) ≡ false
+    none b = grind arith
+
+free_row : (plan : Plan) (s : State) (mv : Move) → bar plan s mv ≡ None → true ≡ not (is_some (row_bar plan s mv))
+free_row plan s mv free = rw (bar_row plan s mv free) refl
+
+-- while the instruction of a stage can climb, there is none in the stage above that could
+pub climb_alone : (plan : Plan) (s : State) (i : ℕ) → bar plan s (Climb i) ≡ None → is_allowed plan s (Climb (i + 1)) ≡ false
+unfolding riding
+climb_alone plan s i free =
+    let here = free_row plan s (Climb i) free ∙ climb_row plan i (cell_at s.cells i) (cell_at s.cells (i + 1)) in
+    let none = room _ (full_in (cell_at s.cells i)) _ _ (riding (cell_at s.cells (i + 1))) _ here in
+    barred_row plan s (Climb (i + 1)) (climb_row plan (i + 1) (cell_at s.cells (i + 1)) (cell_at s.cells (i + 1 + 1)) ∙ rw none refl)
+  where
+    room : (p f o q a l : Bool) → true ≡ (p && (not f && (not o && (not q && (not a && l))))) → a ≡ false
+    room p f o q a l e = grind arith
+
+-- while the result of a stage can fall, the one of the stage above cannot
+pub fall_alone : (plan : Plan) (s : State) (i : ℕ) → bar plan s (Fall i) ≡ None → is_allowed plan s (Fall (i + 1)) ≡ false
+unfolding flying
+fall_alone plan s i free =
+    let z : i + 1 - 1 ≡ i = omega arith in
+    let here = free_row plan s (Fall i) free ∙ fall_row (cell_at s.cells i) (cell_at s.cells (i - 1)) in
+    let some = there (flying (cell_at s.cells i)) _ here in
+    barred_row plan s (Fall (i + 1)) (rw z (fall_row (cell_at s.cells (i + 1)) (cell_at s.cells i) ∙ rw some (none (flying (cell_at s.cells (i + 1))) _ _)))
+  where
+    there : (k r : Bool) → true ≡ (k && r) → k ≡ true
+    there k r e = grind arith
+
+    none : (k f t : Bool) → (k && (f && (t && false))) ≡ false
+    none k f t = grind arith
 
 -- The words --
 
@@ -366,3 +409,54 @@ top_free plan s m on e same some none =
     let z : plan.stages - 1 + 1 ≡ plan.stages = omega arith in
     let f : riding (cell_at s.cells plan.stages) ≡ false = sym (rw z at b.riding) ∙ none in
     (going_free plan s Leave on ∙ leave_row (cell_at s.cells plan.stages) f, going_free plan s Serve on ∙ serve_row (cell_at s.cells plan.stages) f)
+
+-- After a Fall --
+
+-- its stage has no result
+fell : (plan : Plan) (s : State) (i : ℕ) → bar plan s (Fall i) ≡ None → flying (cell_at (moved plan s (Fall i)).cells i) ≡ false
+unfolding moved flying
+fell plan s zero free = absurd (let e = bar_row plan s (Fall zero) free in cc)
+fell plan s (suc k) free = go (slice_get s.cells k) (cell_at s.cells (suc k - 1)) refl refl
+  where
+    go : (o a : Option Cell) → slice_get s.cells k ≡ o → cell_at s.cells (suc k - 1) ≡ a → flying (cell_at (moved plan s (Fall (suc k))).cells (suc k)) ≡ false
+    go None a e f = absurd (let r = bar_row plan s (Fall (suc k)) free in cc)
+    go (Some c) None e f = absurd (let r = bar_row plan s (Fall (suc k)) free in cc)
+    go (Some c) (Some d) e f =
+        let within : k < length s.cells = slice_get_within s.cells k c e in
+        let cells = put_cell s.cells (suc k) (without_packet c) in
+        rw (
+          e,
+          f,
+          cell-put-other cells (suc k - 1) (suc k) (record d { packet = c.packet; met = false }) (λ same. absurd (omega (arith, same))),
+          cell-put s.cells (suc k) (without_packet c) (omega arith) (omega (arith, within)),
+        ) refl
+
+-- so the result of the stage above can fall now, if it need not meet an instruction first
+above_fallen : (k f : Bool) → (k && (not f && (true && not false))) ≡ (k && not f)
+above_fallen k f = grind arith
+
+fallen_row : (plan : Plan) (old s : State) (m : Masks) (i : ℕ) → bar plan old (Fall i) ≡ None → s ≡ moved plan old (Fall i) → m ≡ masks_of plan s →
+    length s.cells ≡ plan.stages → 0 < i → not (is_some (row_bar plan s (Fall (i + 1)))) ≡ (has_bit m.packets i && not (full_bit m i))
+fallen_row plan old s m i free is e same low =
+    let z : i - 1 + 1 ≡ i = omega (arith, low) in
+    let none : has_bit m.packets (i - 1) ≡ false =
+    (bits plan s m (i - 1) e same).flying ∙ rw z (ap (λ (t : State). flying (cell_at t.cells i)) is ∙ fell plan old i free) in
+    let some : nat_lt 0 i ≡ true = grind (arith, nat_tests) in
+    sym (fall-free plan s m i e same) ∙ rw (some, none) (above_fallen (has_bit m.packets i) (full_bit m i))
+
+no_packet : (plan : Plan) (s : State) (m : Masks) (i : ℕ) → m ≡ masks_of plan s → length s.cells ≡ plan.stages → nat_lt i plan.stages ≡ false →
+    has_bit m.packets i ≡ false
+unfolding flying
+no_packet plan s m i e same above =
+    (bits plan s m i e same).flying ∙ rw (no_cell s.cells i (some-cell s.cells i ∙ ap (nat_lt i) same ∙ above)) refl
+
+pub fallen_next : (plan : Plan) (old s : State) (m : Masks) (i : ℕ) → bar plan old (Fall i) ≡ None → s ≡ moved plan old (Fall i) → goes_on s ≡ true →
+    m ≡ masks_of plan s → length s.cells ≡ plan.stages → 0 < i → has_bit (word_allowed plan s Fall) i ≡ (has_bit m.packets i && not (full_bit m i))
+fallen_next plan old s m i free is on e same low =
+    allowed-has plan s Fall i
+    ∙ ap (λ (b : Bool). nat_lt i plan.stages && b) (going_free plan s (Fall (i + 1)) on ∙ fallen_row plan old s m i free is e same low)
+    ∙ within (nat_lt i plan.stages) refl
+  where
+    within : (b : Bool) → nat_lt i plan.stages ≡ b → (b && (has_bit m.packets i && not (full_bit m i))) ≡ (has_bit m.packets i && not (full_bit m i))
+    within true f = refl
+    within false f = rw (no_packet plan s m i e same f) refl

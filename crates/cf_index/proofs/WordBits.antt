@@ -1,12 +1,12 @@
 -- The bits of words that are made from others.
-use Rattle.std.proofs.Common.{◌≡◌, ◌∙◌, refl, sym, ap, ℕ, zero, suc, ◌+◌, ◌-◌, ◌*◌, ◌/◌, ◌%◌, ◌^◌, ◌<◌, ◌≤◌, Bool, true, false, nat_eq, nat_lt, min, arith}
-use Rattle.std.specs.Prelude.{◌&&◌, not}
+use Rattle.std.proofs.Common.{◌≡◌, ◌∙◌, refl, sym, ap, ℕ, zero, suc, ◌+◌, ◌-◌, ◌*◌, ◌/◌, ◌%◌, ◌^◌, ◌<◌, ◌≤◌, Bool, true, false, nat_eq, nat_lt, max, min, arith}
+use Rattle.std.specs.Prelude.{◌&&◌, ◌||◌, not}
 use Rattle.std.specs.Int.{bit_at, bit_not, w32}
-use Rattle.std.specs.Int.RustNames.{bit_and}
+use Rattle.std.specs.Int.RustNames.{bit_and, bit_or}
 use Rattle.std.proofs.lemmas.Bool.Decides.{nat_tests}
 use Rattle.std.proofs.Math.Nat.{pow-le-pow_right}
 use Rattle.std.proofs.lemmas.Nat.{one_shl, pow_pos}
-use Rattle.std.proofs.lemmas.Nat.Bits.{bit_at-lt, bit_at-suc, bit_at_above, bit_at_and, bit_at_cat_low, bit_at_lowest, bit_at_not, bit_at_ones, bit_at_ones_above}
+use Rattle.std.proofs.lemmas.Nat.Bits.{bit_at-lt, bit_at-suc, bit_at_above, bit_at_and, bit_at_cat_low, bit_at_lowest, bit_at_not, bit_at_ones, bit_at_ones_above, bit_at_or}
 use Rattle.cf_layout.specs.Words.{has_bit}
 
 -- the bits that both words have
@@ -16,6 +16,14 @@ and_bit a b h g = grind (arith, nat_tests)
 pub of_both : (w v k : ℕ) → has_bit (bit_and w v) k ≡ (has_bit w k && has_bit v k)
 unfolding has_bit
 of_both w v k = ap (λ (b : ℕ). nat_eq b 1) (bit_at_and w v k) ∙ and_bit (bit_at w k) (bit_at v k) (bit_at-lt w k) (bit_at-lt v k)
+
+-- the bits that either word has
+or_bit : (a b : ℕ) → a < 2 → b < 2 → nat_eq (max a b) 1 ≡ (nat_eq a 1 || nat_eq b 1)
+or_bit a b h g = grind (arith, nat_tests)
+
+pub of_either : (w v k : ℕ) → has_bit (bit_or w v) k ≡ (has_bit w k || has_bit v k)
+unfolding has_bit
+of_either w v k = ap (λ (b : ℕ). nat_eq b 1) (bit_at_or w v k) ∙ or_bit (bit_at w k) (bit_at v k) (bit_at-lt w k) (bit_at-lt v k)
 
 -- a bit from 32 on
 high_bit : (w k : ℕ) → w < 2 ^ 32 → 32 ≤ k → has_bit w k ≡ false
@@ -51,7 +59,7 @@ low_part x k below =
     let e : x / 2 ^ 32 * 2 ^ 32 + x % 2 ^ 32 ≡ x = omega arith in
     sym (bit_at_cat_low (x / 2 ^ 32) 32 (x % 2 ^ 32) k below) ∙ ap (λ (y : ℕ). bit_at y k) e
 
-twice_bit : (w k : ℕ) → nat_eq (bit_at (w * 2) k) 1 ≡ (nat_lt 0 k && nat_eq (bit_at w (k - 1)) 1)
+pub twice_bit : (w k : ℕ) → nat_eq (bit_at (w * 2) k) 1 ≡ (nat_lt 0 k && nat_eq (bit_at w (k - 1)) 1)
 twice_bit w zero = let e : bit_at (w * 2) 0 ≡ 0 = bit_at_lowest (w * 2) ∙ omega arith in rw e refl
 twice_bit w (suc k) =
     let e : w * 2 / 2 ≡ w = omega arith in

@@ -1,7 +1,8 @@
 //! Words as sets of small numbers: bit k for number k.
 
-ghost use Rattle.std.specs.Prelude.{◌≡◌, ℕ, ◌<◌, ◌≤◌, ◌&&◌, ◌||◌, nat_eq, IfSome, Some, filter, length, nat_lt, slice_get};
+ghost use Rattle.std.specs.Prelude.{◌≡◌, ℕ, ◌-◌, ◌<◌, ◌≤◌, ◌&&◌, ◌||◌, nat_eq, IfSome, None, Some, filter, length, nat_lt, slice_get};
 ghost use Rattle.cf_layout.specs.Words.{has_bit};
+ghost use Rattle.cf_index.specs.Left.{IsLowest};
 ghost use Rattle.cf_index.specs.Most.{most_of_kind};
 ghost use Rattle.cf_index.specs.Places.{set_places};
 
@@ -41,6 +42,19 @@ pub(crate) fn lowest(word: u32) -> Option<u32>
         None
     } else {
         Some(wide.trailing_zeros())
+    }
+}
+
+/// The lowest stage of the word, which has bit i - 1 for stage i.
+#[inline(always)]
+pub(crate) fn lowest_stage(word: u32) -> Option<u32>
+    ensures lowest { IfSome result (IsLowest word) }
+    ensures first { IfSome result (λ i. Some (i - 1) ≡ slice_get (set_places 64 word) 0) }
+    ensures gone { result ≡ None → None ≡ slice_get (set_places 64 word) 0 }
+{
+    match lowest(word) {
+        Some(k) => Some(k + 1),
+        None => None,
     }
 }
 

@@ -21,6 +21,7 @@ mod plainly;
 mod rank;
 mod sharing;
 mod soon;
+mod stage_kinds;
 mod stages;
 mod starting;
 mod sweeping;
@@ -33,6 +34,7 @@ pub use known::is_known_allowed;
 pub use packed::PackedCandidates;
 pub use rank::Rank;
 pub use sharing::shares;
+pub use stage_kinds::{StageKind, climbs_left};
 pub use sweeping::{
     ClimbKind, EmitKind, ExecuteKind, FallKind, LaunchKind, MeetKind, SendKind, SweptKind,
 };

@@ -1,7 +1,8 @@
 //! The moves over the stages, by shifts and logic from the words of a processor.
 
-ghost use Rattle.std.specs.Prelude.{◌≡◌, ℕ, ◌+◌, ◌-◌, ◌<◌, ◌≤◌, ◌&&◌, not, nat_lt};
+ghost use Rattle.std.specs.Prelude.{◌≡◌, ℕ, ◌+◌, ◌-◌, ◌<◌, ◌≤◌, ◌&&◌, ◌||◌, not, nat_eq, nat_lt};
 ghost use Rattle.cf_layout.specs.Words.{has_bit};
+ghost use Rattle.cf_index.specs.Left.{IsLowest};
 ghost use Rattle.cf_index.specs.Words.{climb_bit, fall_bit, full_bit, send_bit};
 
 use cf_core::Masks;
@@ -22,6 +23,15 @@ fn common(word: u32, other: u32) -> u32
     ensures { (k : ℕ) → has_bit result k ≡ (has_bit word k && has_bit other k) }
 {
     word & other
+}
+
+/// The bits that either word has.
+#[inline(always)]
+#[tactic(auto, using(crate::proofs::WordBits::of_either))]
+fn either(word: u32, other: u32) -> u32
+    ensures { (k : ℕ) → has_bit result k ≡ (has_bit word k || has_bit other k) }
+{
+    word | other
 }
 
 /// The word shifted so that the bit of each stage is that of the stage above.
@@ -106,4 +116,23 @@ pub(crate) fn past(word: u32, i: u32) -> u32
     ensures { (k : ℕ) → has_bit result k ≡ (has_bit word k && not (nat_lt k i)) }
 {
     without(word, lowest(i.min(32)))
+}
+
+/// The word without its lowest stage.
+// The lowest stage is where the subtraction borrows, so it is not searched for.
+#[inline(always)]
+#[tactic(auto, using(crate::proofs::LowestBits::no_lowest))]
+pub(crate) fn without_lowest(word: u32) -> u32
+    ensures { (i k : ℕ) → IsLowest word i → has_bit result k ≡ (has_bit word k && not (nat_lt k i)) }
+{
+    word & word.wrapping_sub(1)
+}
+
+/// The word without its lowest stage, and with the stage above that one if the other word has it.
+#[inline(always)]
+pub(crate) fn with_next(word: u32, other: u32) -> u32
+    ensures { (i k : ℕ) → IsLowest word i → has_bit result k ≡ ((has_bit word k && not (nat_lt k i)) || (nat_eq k i && has_bit other k)) }
+{
+    let rest = without_lowest(word);
+    either(rest, common(below(without(word, rest)), other))
 }

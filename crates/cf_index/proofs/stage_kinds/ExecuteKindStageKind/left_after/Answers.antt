@@ -1,0 +1,8 @@
+use Rattle.cf_bind.specs.declared.moves.Move.TheVariants.{Execute}
+use Rattle.cf_index.proofs.LeftStages.{executes_by, executes_keep, left_alone}
+use Rattle.cf_index.proofs.stage_kinds.ExecuteKindStageKind.left_after.Goals as goal
+
+pub returns : goal.returns
+returns c = λ old r processor made.
+    left_alone c.args.core.now.plan old c.args.core.now.state r Execute c.args.left c.without_lowest.result c.args.i executes_by executes_keep processor made
+    (λ k. c.without_lowest.ensures c.args.i k made.lowest)

@@ -1,0 +1,21 @@
+use Rattle.cf_bind.specs.declared.moves.Move.TheVariants.{Send}
+use Rattle.cf_index.specs.Allowed.{passing_of}
+use Rattle.cf_index.specs.PickedFrom.{from_send, from_launch}
+use Rattle.cf_index.proofs.LeftStages.{first_here, left_gone}
+use Rattle.cf_index.proofs.PickedFrom.{after_sends}
+use Rattle.cf_index.proofs.stage_kinds.SendKindStageKind.next.Goals as goal
+
+pub returns-clause-here : goal.returns-clause-here
+unfolding passing_of
+returns-clause-here c =
+    let plan = c.args.core.now.plan in
+    let s = c.args.core.now.state in
+    first_here plan s c.args.last Send c.args.left (from_send plan s) (from_launch plan s) c.lowest_stage.result (after_sends plan s) c.requires
+    c.lowest_stage.ensures.lowest c.lowest_stage.ensures.first
+
+pub returns-clause-gone : goal.returns-clause-gone
+unfolding passing_of
+returns-clause-gone c = λ none.
+    let plan = c.args.core.now.plan in
+    let s = c.args.core.now.state in
+    left_gone plan s c.args.last Send c.args.left (from_send plan s) (from_launch plan s) (after_sends plan s) c.requires (c.lowest_stage.ensures.gone none)

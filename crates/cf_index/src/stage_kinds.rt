@@ -1,0 +1,306 @@
+//! The kinds of moves that a sweep lists stage by stage: the stages at which such a move is left are a word that is made
+//! once, and changed after each move.
+
+ghost use Rattle.std.specs.Prelude.{◌≡◌, ℕ, ◌-◌, ◌≤◌, Bool, IfSome, List, None, Some, find, true};
+ghost use Rattle.run_options.specs.declared.guess_rule.GuessRule.{GuessRule};
+ghost use Rattle.cf_bind.specs.declared.moves.Move.{Move as Step};
+ghost use Rattle.cf_bind.specs.declared.moves.Move.TheVariants as mv;
+ghost use Rattle.cf_layout.specs.Layout.{Plan};
+ghost use Rattle.cf_semantics.specs.state.State.{State};
+ghost use Rattle.cf_core.specs.Climbing.{ClimbsTo, climbed};
+ghost use Rattle.cf_core.specs.Processors.{IsProcessor, Processor};
+ghost use Rattle.cf_index.specs.Left.{AreLeft, IsLowest, IsMadeAt};
+ghost use Rattle.cf_index.specs.Order.{kind_place};
+ghost use Rattle.cf_index.specs.Words.{goes_on};
+ghost use Rattle.cf_index.specs.Ranks.{is_past, rank_of};
+ghost use Rattle.cf_index.specs.PickedFrom.{IsPickedFrom, from_climb, from_execute, from_fall, from_launch, from_leave, from_meet, from_recover, from_send, outward_on};
+
+use crate::ahead::{climbs_after, falls_after};
+use crate::bits::lowest_stage;
+use crate::ending_kinds::RecoverKind;
+use crate::rank::{EXECUTE, LAUNCH, MEET, RECOVER, Rank, SEND};
+use crate::stages::{executes, know_stages, launches, meets, sends};
+use crate::sweeping::{ClimbKind, ExecuteKind, FallKind, LaunchKind, MeetKind, SendKind};
+use crate::words::{resting, with_next, without_lowest};
+use cf_bind::Move;
+use cf_core::Core;
+
+/// A kind of move that a sweep lists stage by stage: Climb, Fall, Meet, Execute, Send, Launch or Recover.
+pub trait StageKind {
+    /// The move of this kind at a stage.
+    ghost at_stage: { ℕ → Step };
+
+    /// What is allowed of this kind and of those after it.
+    ghost from: { Plan → State → List Step };
+
+    /// What is allowed of the kinds after it.
+    ghost beyond: { Plan → State → List Step };
+
+    /// The move at the stage.
+    fn at(i: u32) -> Move
+        ensures value { result ≡ at_stage i }
+        ensures after { 1 ≤ kind_place result }
+        ensures before { kind_place result ≤ 10 }
+        ensures picked { (rule : GuessRule) (held : Bool) (plan : Plan) (s : State) → plan.stages ≤ 32 → IsPickedFrom rule held plan s (Some result) (rank_of result) (from plan s) };
+
+    /// The stages past the rank at which the move is allowed, as a word with bit i - 1 for stage i.
+    fn left(core: &Core, last: Rank) -> u32
+        requires { goes_on core.now.state ≡ true }
+        ensures { AreLeft core.now.plan core.now.state last at_stage result };
+
+    /// The first of the stages that are left.
+    fn next(core: &Core, last: Rank, left: u32) -> Option<u32>
+        requires { AreLeft core.now.plan core.now.state last at_stage left }
+        ensures here { IfSome result (λ i. find (is_past last) (from core.now.plan core.now.state) ≡ Some (at_stage i)) }
+        ensures gone { result ≡ None → find (is_past last) (beyond core.now.plan core.now.state) ≡ find (is_past last) (from core.now.plan core.now.state) }
+        ensures lowest { IfSome result (IsLowest left) };
+
+    /// The stages that are left after the move was made at the first of them.
+    fn left_after(core: &Core, i: u32, left: u32) -> u32
+        requires { goes_on core.now.state ≡ true }
+        ensures { (old : State) (r : Rank) → IsProcessor core.now.plan old → IsMadeAt core.now.plan old core.now.state r at_stage left i →
+            AreLeft core.now.plan core.now.state (rank_of (at_stage i)) at_stage result };
+}
+
+impl StageKind for MeetKind {
+    ghost at_stage = { mv.Meet };
+
+    ghost from = { from_meet };
+
+    ghost beyond = { from_execute };
+
+    #[inline(always)]
+    #[tactic(auto, using(crate::proofs::PickedFrom::met_on))]
+    fn at(i: u32) -> Move {
+        Move::Meet(i)
+    }
+
+    #[inline(always)]
+    fn left(core: &Core, last: Rank) -> u32 {
+        let masks = core.masks();
+        last.after(MEET, meets(core, &masks, true))
+    }
+
+    #[inline(always)]
+    fn next(core: &Core, last: Rank, left: u32) -> Option<u32> {
+        let (_core, _last) = (core, last);
+        lowest_stage(left)
+    }
+
+    #[inline(always)]
+    fn left_after(core: &Core, i: u32, left: u32) -> u32 {
+        let (_core, _stage) = (core, i);
+        without_lowest(left)
+    }
+}
+
+impl StageKind for ExecuteKind {
+    ghost at_stage = { mv.Execute };
+
+    ghost from = { from_execute };
+
+    ghost beyond = { from_send };
+
+    #[inline(always)]
+    #[tactic(auto, using(crate::proofs::PickedFrom::executed_on))]
+    fn at(i: u32) -> Move {
+        Move::Execute(i)
+    }
+
+    #[inline(always)]
+    fn left(core: &Core, last: Rank) -> u32 {
+        let masks = core.masks();
+        last.after(EXECUTE, executes(core, &masks))
+    }
+
+    #[inline(always)]
+    fn next(core: &Core, last: Rank, left: u32) -> Option<u32> {
+        let (_core, _last) = (core, last);
+        lowest_stage(left)
+    }
+
+    #[inline(always)]
+    fn left_after(core: &Core, i: u32, left: u32) -> u32 {
+        let (_core, _stage) = (core, i);
+        without_lowest(left)
+    }
+}
+
+impl StageKind for SendKind {
+    ghost at_stage = { mv.Send };
+
+    ghost from = { from_send };
+
+    ghost beyond = { from_launch };
+
+    #[inline(always)]
+    #[tactic(auto, using(crate::proofs::PickedFrom::sent_on))]
+    fn at(i: u32) -> Move {
+        Move::Send(i)
+    }
+
+    #[inline(always)]
+    fn left(core: &Core, last: Rank) -> u32 {
+        let masks = core.masks();
+        last.after(SEND, sends(core, &masks, true))
+    }
+
+    #[inline(always)]
+    fn next(core: &Core, last: Rank, left: u32) -> Option<u32> {
+        let (_core, _last) = (core, last);
+        lowest_stage(left)
+    }
+
+    #[inline(always)]
+    fn left_after(core: &Core, i: u32, left: u32) -> u32 {
+        let (_core, _stage) = (core, i);
+        without_lowest(left)
+    }
+}
+
+impl StageKind for FallKind {
+    ghost at_stage = { mv.Fall };
+
+    ghost from = { from_fall };
+
+    ghost beyond = { from_meet };
+
+    #[inline(always)]
+    #[tactic(auto, using(crate::proofs::PickedFrom::fallen_on))]
+    fn at(i: u32) -> Move {
+        Move::Fall(i)
+    }
+
+    #[inline(always)]
+    fn left(core: &Core, last: Rank) -> u32 {
+        let masks = core.masks();
+        falls_after(core, &masks, last, true)
+    }
+
+    #[inline(always)]
+    fn next(core: &Core, last: Rank, left: u32) -> Option<u32> {
+        let (_core, _last) = (core, last);
+        lowest_stage(left)
+    }
+
+    // The stage that the result has left has none now, so the result of the stage above can fall to it.
+    #[inline(always)]
+    fn left_after(core: &Core, i: u32, left: u32) -> u32 {
+        let _stage = i;
+        know_stages(core);
+        let masks = core.masks();
+        with_next(left, resting(&masks))
+    }
+}
+
+impl StageKind for LaunchKind {
+    ghost at_stage = { mv.Launch };
+
+    ghost from = { from_launch };
+
+    ghost beyond = { outward_on };
+
+    #[inline(always)]
+    #[tactic(auto, using(crate::proofs::PickedFrom::launched_on))]
+    fn at(i: u32) -> Move {
+        Move::Launch(i)
+    }
+
+    #[inline(always)]
+    fn left(core: &Core, last: Rank) -> u32 {
+        let masks = core.masks();
+        last.after(LAUNCH, launches(core, &masks))
+    }
+
+    #[inline(always)]
+    fn next(core: &Core, last: Rank, left: u32) -> Option<u32> {
+        let (_core, _last) = (core, last);
+        lowest_stage(left)
+    }
+
+    // The siding that the operation has entered may be that of another stage too.
+    #[inline(always)]
+    fn left_after(core: &Core, i: u32, left: u32) -> u32 {
+        let _left = left;
+        Self::left(core, Rank::of(Self::at(i)))
+    }
+}
+
+impl StageKind for RecoverKind {
+    ghost at_stage = { mv.Recover };
+
+    ghost from = { from_recover };
+
+    ghost beyond = { from_leave };
+
+    #[inline(always)]
+    #[tactic(auto, using(crate::proofs::PickedFrom::recovered_on))]
+    fn at(i: u32) -> Move {
+        Move::Recover(i)
+    }
+
+    #[inline(always)]
+    fn left(core: &Core, last: Rank) -> u32 {
+        let masks = core.masks();
+        last.after(RECOVER, masks.recover)
+    }
+
+    #[inline(always)]
+    fn next(core: &Core, last: Rank, left: u32) -> Option<u32> {
+        let _last = last;
+        know_stages(core);
+        lowest_stage(left)
+    }
+
+    // The siding that the operation has left may be that of another stage too.
+    #[inline(always)]
+    fn left_after(core: &Core, i: u32, left: u32) -> u32 {
+        let _left = left;
+        Self::left(core, Rank::of(Self::at(i)))
+    }
+}
+
+impl StageKind for ClimbKind {
+    ghost at_stage = { mv.Climb };
+
+    ghost from = { from_climb };
+
+    ghost beyond = { from_fall };
+
+    #[inline(always)]
+    #[tactic(auto, using(crate::proofs::PickedFrom::climbed_on))]
+    fn at(i: u32) -> Move {
+        Move::Climb(i)
+    }
+
+    #[inline(always)]
+    fn left(core: &Core, last: Rank) -> u32 {
+        let masks = core.masks();
+        climbs_after(core, &masks, last, true)
+    }
+
+    #[inline(always)]
+    fn next(core: &Core, last: Rank, left: u32) -> Option<u32> {
+        let (_core, _last) = (core, last);
+        lowest_stage(left)
+    }
+
+    // After one Climb the instruction may climb on, and the one below may follow it.
+    #[inline(always)]
+    fn left_after(core: &Core, i: u32, left: u32) -> u32 {
+        let _left = left;
+        Self::left(core, Rank::of(Self::at(i)))
+    }
+}
+
+/// The Climbs that are left after the instruction of the lowest stage has climbed as far as it can.
+#[inline(always)]
+#[tactic(auto, using(crate::proofs::LeftClimbs::left_climbs))]
+pub fn climbs_left(i: u32, left: u32) -> u32
+    requires { IsLowest left i }
+    ensures { (p : Processor) (j : ℕ) (r : Rank) → AreLeft p.plan p.state r mv.Climb left → IsProcessor p.plan p.state → ClimbsTo p i j →
+        AreLeft p.plan (climbed p i (j - i)).state (rank_of (mv.Climb (j - 1))) mv.Climb result }
+{
+    let _stage = i;
+    without_lowest(left)
+}
