@@ -17,7 +17,9 @@ pub mod Bounds
 pub mod ByPolicy
 pub mod Stopped
 pub mod Coming
+pub mod Occupied
 pub mod Turning
+pub mod Climbing
 pub mod Headline
 pub mod Ending
 pub mod Opened

@@ -1,6 +1,7 @@
 -- Turns of the rule: what a move of a sweep leaves as it is, and where some turns lead.
 use Rattle.std.specs.Prelude.{IfSome, MatchOption, find, is_some, slice_get, slice_set}
-use Rattle.std.proofs.Common.{◌≡◌, ◌≢◌, ◌∙◌, sym, refl, ap, subst, ℕ, zero, suc, ◌+◌, ◌-◌, ◌≤◌, ◌<◌, ◌^◌, List, [], ◌∷◌, Bool, true, false, cond, Option, Some, None, Ok, arith}
+use Rattle.std.proofs.Common.{◌≡◌, ◌≢◌, ◌∙◌, sym, refl, ap, subst, ℕ, zero, suc, ◌+◌, ◌-◌, ◌*◌, ◌≤◌, ◌<◌, ◌^◌, List, [], ◌∷◌, Bool, true, false, cond, Option, Some, None, Ok, arith}
+use Rattle.std.proofs.Math.Nat.{min-eq_left, min-le_right}
 use Rattle.run_options.specs.declared.guess_rule.GuessRule.{GuessRule}
 use Rattle.run_options.specs.declared.reporting.Reporting.{Reporting}
 use Rattle.run_options.specs.declared.show.Show.{Show}
@@ -32,7 +33,7 @@ use Rattle.cf_index.specs.PickedFrom.{IsLast, IsPicked, IsPickedFrom}
 use Rattle.cf_index.specs.Ranks.{is_past}
 use Rattle.cf_index.specs.Words.{goes_on}
 use Rattle.cf_index.specs.declared.rank.Rank.{Rank}
-use Rattle.cf_sched.specs.Paces.{PaceCount, offered_by, saw}
+use Rattle.cf_sched.specs.Paces.{PaceCount, offered_by, saw, stopped}
 use Rattle.cf_sched.specs.Policies.{round_on, round_pick}
 use Rattle.cf_report.specs.declared.tally.Tally.{Tally}
 use Rattle.run_finishes.specs.declared.finish.Ran.{Ran as Answer}
@@ -44,6 +45,7 @@ use Rattle.cf_run.specs.Reaching.{GoesOn, IsOver}
 use Rattle.cf_run.specs.Sweeps.{HasCome, HasPicked, IsSweeping, Keeps, PicksNext, RulePlace, SweepsTo, TurnsOnce, TurnsTo, exposing, rule_at, silent}
 use Rattle.cf_run.proofs.ByRule.{ruled-allowed}
 use Rattle.cf_run.proofs.Coming.{asked-comes, comes-bounded, comes-counted, comes-more, seen-count, turned-counted, turned-plan, turned-within}
+use Rattle.cf_run.proofs.Occupied.{same-pace}
 use Rattle.cf_run.proofs.Runs.{can-count}
 
 -- What is unchanged --
@@ -432,6 +434,26 @@ sweeping-kept limit now new ready swept keeps =
     let below = ready.goes.below in
     let retired = keeps.retired in
     sweeping-on limit now new ready swept (record { unended = keeps.ending ∙ ready.goes.unended; below = omega (arith, below, retired) })
+
+-- the count of a pace has stopped where it stops
+count-stops : (limit : ℕ) (show : Reporting) (at : RulePlace) → HasCome limit show at → stopped at.pace.stages at.pace.count ≡ at.pace.count
+count-stops limit show at h =
+    let begin = h.begin.core.plan.stages in
+    let same : at.pace.stages ≡ begin = h.stages ∙ ap (λ (p : Plan). p.stages) (same_plan limit show at h) in
+    let most = min-le_right h.comes.at.count (2 * begin) in
+    let counted = h.comes.count_is in
+    min-eq_left (omega (arith, most, counted, same))
+
+-- the pace is unchanged by a move by which nothing enters at the bottom or leaves
+pub within-sweeps : (limit : ℕ) (now : RulePlace) (core : Processor) (m : Move) (tally : Tally) (e : Event) → 1 ≤ kind_place m → kind_place m ≤ 10 →
+    IsSweeping limit now → PicksNext now.pace now.core now.last m → core ≡ after_move now.core m → IsEvent now.core.plan now.core.state m e →
+    tally ≡ counted_event now.tally m e → SweepsTo limit silent now (rule_at core (Some m) now.pace tally)
+within-sweeps limit now core m tally e after before ready picked is event counts =
+    let plan = now.core.plan in
+    let free = picked_free now.pace.rule plan now.pace.count now.core.state now.last m picked in
+    picked-sweeps limit now core m now.pace tally e (is_drained (moved plan now.core.state m)) (omega (arith, before)) ready picked is event counts
+    (same-pace plan now.core.state now.pace m e after before free event (count-stops limit silent now ready.come))
+    (ap (λ (p : Processor). is_drained p.state) (sym is))
 
 -- Where the next pick is looked for --
 
