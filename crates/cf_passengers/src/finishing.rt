@@ -69,77 +69,73 @@ fn value_of(destination: Option<Binding>, value: u32) -> Option<Packet>
     }
 }
 
-/// The finished instruction: it has the value, and the program goes on at `next`. It owes a turn if the guess was
-/// another address, and otherwise its value.
+/// What a finished instruction owes: a turn to `next` if the guess was another address, and otherwise its value.
 #[inline(always)]
-fn finished(p: Passenger, next: u32, value: u32) -> Passenger
-    ensures { result ≡ finished_at p next value }
+fn owed(p: &Passenger, next: u32, value: u32) -> Option<Packet>
+    ensures { result ≡ (finished_at p.now next value).owes }
 {
-    let owes = if was_guessed(guessed(p.guess, instruction(&p), p.pc), next) {
+    if was_guessed(guessed(p.guess, instruction(p), p.pc), next) {
         value_of(p.dst, value)
     } else {
         Some(Packet::Turn(next))
-    };
-    Passenger {
-        done: true,
-        next: Some(next),
-        dst: with_value(p.dst, value),
-        owes,
-        ..p
     }
+}
+
+/// The instruction is finished: it has the value, and the program goes on at `next`.
+#[inline(always)]
+fn complete(p: &mut Passenger, next: u32, value: u32)
+    ensures { p.new ≡ finished_at p.old next value }
+{
+    p.owes = owed(p, next, value);
+    p.dst = with_value(p.dst, value);
+    p.next = Some(next);
+    p.done = true;
 }
 
 /// The instruction traps: it is done, and owes a halt to what was fetched after it.
 #[inline(always)]
-pub fn trapped(p: Passenger, end: End) -> Passenger
-    ensures passenger { result ≡ trapped_by p end }
-    ensures facts { (isa : InstructionSet) → IsPassenger isa p → IsPassenger isa result }
+pub fn trap(p: &mut Passenger, end: End)
+    ensures passenger { p.new ≡ trapped_by p.old end }
+    ensures facts { (isa : InstructionSet) → IsPassenger isa p.old → IsPassenger isa p.new }
 {
-    Passenger {
-        done: true,
-        ending: Some(end),
-        owes: Some(Packet::Halt),
-        ..p
-    }
+    p.done = true;
+    p.ending = Some(end);
+    p.owes = Some(Packet::Halt);
 }
 
 /// The instruction finishes, with the answer of memory or, without one, with what its unit computes. A branch or a jump
 /// whose next address is not a multiple of 4 traps.
 #[inline(always)]
 #[tactic(auto, using(crate::proofs::Classes::finishing), unfolding(cf_semantics::specs::state::Passengers::finish, cf_semantics::specs::moves::Instructions::kind_of))]
-pub fn finish(p: Passenger, answer: Option<u32>) -> Passenger
-    requires computing { IfNone answer (IsTrue (computes (kind_of_passenger p))) }
-    ensures passenger { result ≡ finished_by p answer }
-    ensures facts { (isa : InstructionSet) → IsPassenger isa p → IsPassenger isa result }
+pub fn finish(p: &mut Passenger, answer: Option<u32>)
+    requires computing { IfNone answer (IsTrue (computes (kind_of_passenger p.old))) }
+    ensures passenger { p.new ≡ finished_by p.old answer }
+    ensures facts { (isa : InstructionSet) → IsPassenger isa p.old → IsPassenger isa p.new }
 {
-    let i = instruction(&p);
+    let i = instruction(p);
     let a = value_in(p.src1);
     let b = value_in(p.src2);
     if let Some(end) = misaligned(i, p.pc, a, b) {
-        return trapped(p, end);
+        trap(p, end);
+        return;
     }
     let value = match answer {
         Some(value) => value,
         None => value(i, p.pc, a, b),
     };
-    finished(p, next_of(i, p.pc, a, b), value)
+    complete(p, next_of(i, p.pc, a, b), value);
 }
 
 /// The instruction takes its operation back; a live one finishes.
 #[inline(always)]
-pub fn back_in(p: Passenger, answer: Option<u32>) -> Passenger
-    requires computing { p.dead ≡ false → IfNone answer (IsTrue (computes (kind_of_passenger p))) }
-    ensures passenger { result ≡ comes_back p answer }
-    ensures facts { (isa : InstructionSet) → IsPassenger isa p → IsPassenger isa result }
+pub fn recover(p: &mut Passenger, answer: Option<u32>)
+    requires computing { p.old.dead ≡ false → IfNone answer (IsTrue (computes (kind_of_passenger p.old))) }
+    ensures passenger { p.new ≡ comes_back p.old answer }
+    ensures facts { (isa : InstructionSet) → IsPassenger isa p.old → IsPassenger isa p.new }
 {
-    let recovered = Passenger {
-        recovered: true,
-        ..p
-    };
-    if p.dead {
-        recovered
-    } else {
-        finish(recovered, answer)
+    p.recovered = true;
+    if !p.dead {
+        finish(p, answer);
     }
 }
 

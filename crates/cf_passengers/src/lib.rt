@@ -12,7 +12,7 @@ mod retiring;
 mod stopping;
 
 pub use asking::{RequestedSources, requests};
-pub use finishing::{answered, back_in, finish, quits, trapped};
+pub use finishing::{answered, finish, quits, recover, trap};
 pub use guessing::{goto, guessed, may_guess};
 pub use issuing::{fetched, fresh, isa_of};
 pub use launching::{launch_trap, operation};

@@ -165,10 +165,11 @@ impl Situation {
         let Some(cell) = self.cell(i as usize) else {
             return;
         };
-        let Some(passenger) = cell.passenger else {
+        let Some(mut passenger) = cell.passenger else {
             return;
         };
-        self.set_passenger(i as usize, cell, finish(passenger, None));
+        finish(&mut passenger, None);
+        self.set_passenger(i as usize, cell, passenger);
     }
 
     /// Puts the result that the instruction owes beside it, as met.

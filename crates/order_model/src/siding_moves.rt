@@ -20,7 +20,7 @@ use crate::siding_ops::last_op;
 use crate::situation::Situation;
 use cf_bind::{Binding, Op, Passenger};
 use cf_layout::LooseLayout;
-use cf_passengers::{back_in, kind, launch_trap, operation, trapped};
+use cf_passengers::{kind, launch_trap, operation, recover, trap};
 use mem_regions::Regions;
 use order_rules::kept;
 use rv_inst::{Class, access_of, class_of, extend};
@@ -116,7 +116,9 @@ fn take_back(away: Option<Rule>, p: Passenger, op: &Op) -> Passenger
     ensures { result ≡ comes_back (sources_without away p op.now) (answer_without away p op.now) }
 {
     let answer = answer_taken(away, &p, op);
-    back_in(sources_taken(away, p, op), answer)
+    let mut taken = sources_taken(away, p, op);
+    recover(&mut taken, answer);
+    taken
 }
 
 impl Situation {
@@ -128,21 +130,19 @@ impl Situation {
         let Some(cell) = self.cell(i as usize) else {
             return;
         };
-        let Some(passenger) = cell.passenger else {
+        let Some(mut passenger) = cell.passenger else {
             return;
         };
         if let Some(end) = launch_trap(&passenger, mem) {
-            self.set_passenger(i as usize, cell, trapped(passenger, end));
+            trap(&mut passenger, end);
+            self.set_passenger(i as usize, cell, passenger);
             return;
         }
         let Some(k) = layout.siding_of(kind(&passenger)) else {
             return;
         };
-        let launched = Passenger {
-            launched: true,
-            ..passenger
-        };
-        self.set_passenger(i as usize, cell, launched);
+        passenger.launched = true;
+        self.set_passenger(i as usize, cell, passenger);
         self.set_op(k as usize, 0, Some(operation(&passenger)));
     }
 

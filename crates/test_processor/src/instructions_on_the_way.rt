@@ -22,11 +22,12 @@ fn issued(ends: &Ends, word: u32, pc: u32, guess: Guess) -> Passenger {
 }
 
 /// The instruction after its execution, if it adds or jumps.
-fn executed(p: Passenger) -> Passenger {
+fn executed(mut p: Passenger) -> Passenger {
     match kind(&p) {
-        Class::Add | Class::Jump => finish(p, None),
-        _ => p,
+        Class::Add | Class::Jump => finish(&mut p, None),
+        _ => {}
     }
+    p
 }
 
 /// A register with its value.

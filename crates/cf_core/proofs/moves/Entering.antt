@@ -13,8 +13,10 @@ use Rattle.cf_semantics.specs.state.Options.{on}
 use Rattle.cf_semantics.specs.state.Passengers.{kind, missing}
 use Rattle.cf_semantics.specs.state.State.{State, cell_at, siding_at}
 use Rattle.cf_sidings.specs.Sidings.{cells_in}
+use Rattle.cf_stages.specs.Changes.{passenger_at}
 use Rattle.cf_core.specs.Processors.{IsProcessor}
 use Rattle.cf_core.proofs.Ported.{siding-cells}
+use Rattle.cf_core.proofs.Rides.{here-by}
 
 -- if nothing in the row bars the move, the last test does not
 source_free : (p : Passenger) (rest : Option Bar) → source_bar p rest ≡ None → rest ≡ None
@@ -37,12 +39,13 @@ empty [] h e = absurd (omega arith)
 empty (None ∷ cells) h e = refl
 empty (Some op ∷ cells) h e = absurd (cc)
 
-pub first-empty : (plan : Plan) (s : State) (i : ℕ) (c : Cell) (p : Passenger) (k : ℕ) (sidings : List (List (Option Op))) → IsProcessor plan s →
-    row_bar plan s (Launch i) ≡ None → Some c ≡ cell_at s.cells i → c.passenger ≡ Some p → siding_of plan (kind p) ≡ Some k → sidings ≡ s.sidings →
+pub first-empty : (plan : Plan) (s : State) (i : ℕ) (p : Passenger) (k : ℕ) (sidings : List (List (Option Op))) → IsProcessor plan s →
+    row_bar plan s (Launch i) ≡ None → passenger_at s.cells i ≡ Some p → siding_of plan (kind p) ≡ Some k → sidings ≡ s.sidings →
     slice_get (cells_in sidings k) 0 ≡ Some None
-first-empty plan s i c p k sidings h e at there home same =
-    let f : launch_bar plan s c i ≡ None = rw (← at) at e in
-    let free = entry_free plan s p k (launch_free plan s c i p f there) home in
+first-empty plan s i p k sidings h e there home same =
+    let c = here-by (cell_at s.cells i) p there in
+    let f : launch_bar plan s c.0 i ≡ None = rw c.1 at e in
+    let free = entry_free plan s p k (launch_free plan s c.0 i p f c.2) home in
     rw same (empty (siding_at s k) (siding-cells plan s (kind p) k h home) free)
 
 pub ruleset entering = (first-empty)

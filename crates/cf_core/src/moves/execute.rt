@@ -61,7 +61,6 @@ impl Processor {
         requires allowed { row_bar self.old.plan self.old.state (mv.Execute i) ≡ None }
         ensures { self.new ≡ after_move self.old (mv.Execute i) }
     {
-        let passenger = self.stages.passenger_mut(i);
-        *passenger = finish(*passenger, None);
+        finish(self.stages.passenger_mut(i), None);
     }
 }

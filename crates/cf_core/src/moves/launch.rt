@@ -19,7 +19,7 @@ use crate::rows::first_of;
 use crate::siding_ends::is_memory;
 use crate::stations::SidingStages;
 use cf_bind::{Bar, Passenger};
-use cf_passengers::{first_missing, kind, launch_trap, launches, operation, trapped};
+use cf_passengers::{first_missing, kind, launch_trap, launches, operation, trap};
 use rv_inst::Class;
 
 /// Whether the siding launches from this stage, and the instruction is yet to be launched.
@@ -124,11 +124,11 @@ impl Processor {
         requires allowed { row_bar self.old.plan self.old.state (mv.Launch i) ≡ None }
         ensures { self.new ≡ after_move self.old (mv.Launch i) }
     {
-        if let Some(passenger) = self.stages.cell(i).passenger {
-            if let Some(end) = launch_trap(&passenger, &self.memory) {
-                *self.stages.passenger_mut(i) = trapped(passenger, end);
-            } else if let Some(k) = self.layout.siding_of(kind(&passenger)) {
-                self.sidings.launch(k, operation(&passenger));
+        if let Some(passenger) = self.stages.passenger(i) {
+            if let Some(end) = launch_trap(passenger, &self.memory) {
+                trap(self.stages.passenger_mut(i), end);
+            } else if let Some(k) = self.layout.siding_of(kind(passenger)) {
+                self.sidings.launch(k, operation(passenger));
                 self.stages.passenger_mut(i).launched = true;
             }
         }

@@ -16,7 +16,7 @@ use crate::rows::first_of;
 use crate::siding_ends::is_memory;
 use crate::stations::SidingStages;
 use cf_bind::{Bar, Passenger};
-use cf_passengers::{back_in, kind, recovers};
+use cf_passengers::{kind, recover, recovers};
 
 /// Whether the siding recovers at this stage, and the operation of the instruction is yet to come back.
 #[inline(always)]
@@ -84,10 +84,10 @@ impl Processor {
         requires allowed { row_bar self.old.plan self.old.state (mv.Recover i) ≡ None }
         ensures { self.new ≡ after_move self.old (mv.Recover i) }
     {
-        if let Some(passenger) = self.stages.cell(i).passenger {
-            if let Some(k) = self.layout.siding_of(kind(&passenger)) {
+        if let Some(passenger) = self.stages.passenger(i) {
+            if let Some(k) = self.layout.siding_of(kind(passenger)) {
                 let op = self.sidings.recover(k);
-                *self.stages.passenger_mut(i) = back_in(passenger, op.answer);
+                recover(self.stages.passenger_mut(i), op.answer);
             }
         }
     }
