@@ -26,11 +26,12 @@ use Rattle.cf_semantics.specs.state.Options.{on}
 use Rattle.cf_semantics.specs.state.Passengers.{kind, trapped}
 use Rattle.cf_semantics.specs.state.State.{State, cell_at, siding_at, with_cell, with_siding}
 use Rattle.cf_core.specs.Asking.{AsksInput, AsksOutput}
-use Rattle.cf_core.specs.Processors.{Processor, after_move}
+use Rattle.cf_core.specs.Processors.{IsProcessor, Processor, after_move}
 use Rattle.cf_core.proofs.Steps.{move-makes}
+use Rattle.cf_index.specs.Left.{AreLeft, IsLowest, IsMadeAt}
 use Rattle.cf_index.specs.Order.{kind_place, leave_place, slide_place}
 use Rattle.cf_index.specs.PickedFrom.{IsLast, IsPicked, IsPickedFrom}
-use Rattle.cf_index.specs.Ranks.{is_past}
+use Rattle.cf_index.specs.Ranks.{is_past, rank_of}
 use Rattle.cf_index.specs.Words.{goes_on}
 use Rattle.cf_index.specs.declared.rank.Rank.{Rank}
 use Rattle.cf_sched.specs.Paces.{PaceCount, offered_by, saw, stopped}
@@ -477,3 +478,21 @@ pub picked_here : (rule : GuessRule) (held : Bool) (plan : Plan) (s : State) (la
     IsPickedFrom rule held plan s last r xs → find (is_past r) xs ≡ Some m → IsPicked rule held plan s last m
 unfolding IsPickedFrom
 picked_here rule held plan s last r xs m picked found = picked.here m found
+
+-- What a sweep has left of a kind --
+
+-- the word of what is left after the move at the lowest stage that was left
+pub left-on : (old new : Processor) (kind : ℕ → Move) (r place : Rank) (w after i : ℕ) → new ≡ after_move old (kind i) → place ≡ rank_of (kind i) →
+    IsProcessor old.plan old.state → AreLeft old.plan old.state r kind w → IsLowest w i →
+    ((s : State) (from : Rank) → IsProcessor new.plan s → IsMadeAt new.plan s new.state from kind w i →
+    AreLeft new.plan new.state (rank_of (kind i)) kind after) →
+    AreLeft new.plan new.state place kind after
+left-on old new kind r place w after i made at facts left lowest so =
+    let plan = ap (λ (p : Processor). p.plan) made in
+    let state = ap (λ (p : Processor). p.state) made in
+    subst (λ (q : Rank). AreLeft new.plan new.state q kind after) (sym at)
+    (so old.state r (subst (λ (l : Plan). IsProcessor l old.state) (sym plan) facts) (record {
+        left = subst (λ (l : Plan). AreLeft l old.state r kind w) (sym plan) left;
+        lowest = lowest;
+        moved_is = subst (λ (l : Plan). new.state ≡ moved l old.state (kind i)) (sym plan) state;
+    }))

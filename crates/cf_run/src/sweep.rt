@@ -5,16 +5,18 @@
 ghost use Rattle.std.specs.Prelude.{◌≡◌, ◌≢◌, ℕ, ◌+◌, ◌≤◌, Some};
 ghost use Rattle.cf_layout.specs.Layout.{Plan};
 ghost use Rattle.cf_semantics.specs.state.State.{State};
+ghost use Rattle.cf_core.specs.Processors.{IsProcessor, after_move};
 ghost use Rattle.cf_index.specs.Order.{kind_place, leave_place};
 ghost use Rattle.cf_index.specs.PickedFrom.{from_emit, outward_on};
-ghost use Rattle.cf_index.specs.Ranks.{first_rank};
+ghost use Rattle.cf_index.specs.Ranks.{first_rank, rank_of};
 ghost use Rattle.cf_run.specs.Sweeps.{IsSweeping, PicksFrom, PicksNext, SweepsTo, rule_at, silent};
 
 use crate::counting::count;
 use cf_bind::Move;
 use cf_core::Core;
 use cf_index::{
-    ClimbKind, EmitKind, ExecuteKind, FallKind, LaunchKind, MeetKind, Rank, SendKind, SweptKind,
+    ClimbKind, EmitKind, ExecuteKind, FallKind, LaunchKind, MeetKind, Rank, SendKind, StageKind,
+    SweptKind,
 };
 use cf_report::Tally;
 use cf_sched::Pace;
@@ -49,6 +51,89 @@ pub(crate) fn make_picked(
     pace.saw(mv, &event, core.drained());
 }
 
+/// Makes and counts the rule's pick, by which nothing enters at the bottom or leaves: the pace is unchanged by it.
+#[inline(always)]
+fn make_within(
+    core: &mut Core,
+    last: Move,
+    mv: Move,
+    pace: &Pace,
+    limit: u64,
+    tally: &mut Tally,
+)
+    requires after { 1 ≤ kind_place mv }
+    requires before { kind_place mv ≤ 10 }
+    requires ready { IsSweeping limit (rule_at core.old (Some last) pace.now tally.old) }
+    requires picked { PicksNext pace.now core.old (Some last) mv }
+    ensures facts { IsProcessor core.old.plan core.old.state }
+    ensures made { core.new ≡ after_move core.old mv }
+    ensures swept { SweepsTo limit silent (rule_at core.old (Some last) pace.now tally.old) (rule_at core.new (Some mv) pace.now tally.new) }
+    ensures ready { IsSweeping limit (rule_at core.new (Some mv) pace.now tally.new) }
+    ensures counted { tally.new.moves ≡ tally.old.moves + 1 }
+{
+    let (_last, _pace, _layout) = (last, pace, core.layout());
+    let event = core.make_inside(mv);
+    count(tally, mv, &event);
+}
+
+/// Makes the move of the kind at the stage, which the rule picks, and answers where the sweep is then.
+#[inline(always)]
+fn make_at_stage<T: StageKind>(
+    core: &mut Core,
+    last: Move,
+    stage: u32,
+    pace: &Pace,
+    limit: u64,
+    tally: &mut Tally,
+) -> SweepPlace
+    requires ready { IsSweeping limit (rule_at core.old (Some last) pace.now tally.old) }
+    requires picked { PicksNext pace.now core.old (Some last) (T.at_stage stage) }
+    ensures facts { IsProcessor core.old.plan core.old.state }
+    ensures made { core.new ≡ after_move core.old (T.at_stage stage) }
+    ensures rank { result.rank ≡ rank_of (T.at_stage stage) }
+    ensures swept { SweepsTo limit silent (rule_at core.old (Some last) pace.now tally.old)
+        (rule_at core.new (Some result.last) pace.now tally.new) }
+    ensures ready { IsSweeping limit (rule_at core.new (Some result.last) pace.now tally.new) }
+    ensures picked { PicksFrom pace.now core.new (Some result.last) result.rank T.from }
+    ensures counted { tally.new.moves ≡ tally.old.moves + 1 }
+{
+    let mv = T::at(stage);
+    make_within(core, last, mv, pace, limit, tally);
+    SweepPlace {
+        last: mv,
+        rank: Rank::of(mv),
+    }
+}
+
+/// Makes the moves of the kind that the rule picks one after another.
+#[inline(always)]
+pub(crate) fn sweep_kind<T: StageKind>(
+    core: &mut Core,
+    from: SweepPlace,
+    pace: &Pace,
+    limit: u64,
+    tally: &mut Tally,
+) -> SweepPlace
+    requires ready { IsSweeping limit (rule_at core.old (Some from.last) pace.now tally.old) }
+    requires picked { PicksFrom pace.now core.old (Some from.last) from.rank T.from }
+    ensures swept { SweepsTo limit silent (rule_at core.old (Some from.last) pace.now tally.old)
+        (rule_at core.new (Some result.last) pace.now tally.new) }
+    ensures ready { IsSweeping limit (rule_at core.new (Some result.last) pace.now tally.new) }
+    ensures picked { PicksFrom pace.now core.new (Some result.last) result.rank T.beyond }
+{
+    let mut place = from;
+    let mut left = T::left(core, from.rank);
+    loop {
+        match T::next(core, place.rank, left) {
+            Some(stage) => {
+                place = make_at_stage::<T>(core, place.last, stage, pace, limit, tally);
+                left = T::left_after(core, stage, left);
+            }
+            None => return place,
+        }
+    }
+}
+
 /// Makes the move of the kind at the stage, which the rule picks, and answers where the sweep is then.
 #[inline(always)]
 fn make_at<T: SweptKind>(
@@ -72,33 +157,6 @@ fn make_at<T: SweptKind>(
     SweepPlace {
         last: mv,
         rank: Rank::of(mv),
-    }
-}
-
-/// Makes the moves of the kind that the rule picks one after another.
-#[inline(always)]
-pub(crate) fn sweep_kind<T: SweptKind>(
-    core: &mut Core,
-    from: SweepPlace,
-    pace: &mut Pace,
-    limit: u64,
-    tally: &mut Tally,
-) -> SweepPlace
-    requires again { (plan : Plan) (s : State) → T.onward plan s ≡ T.from plan s }
-    requires keeps { (i : ℕ) → kind_place (T.at_stage i) ≢ leave_place }
-    requires ready { IsSweeping limit (rule_at core.old (Some from.last) pace.old tally.old) }
-    requires picked { PicksFrom pace.old core.old (Some from.last) from.rank T.from }
-    ensures swept { SweepsTo limit silent (rule_at core.old (Some from.last) pace.old tally.old)
-        (rule_at core.new (Some result.last) pace.new tally.new) }
-    ensures ready { IsSweeping limit (rule_at core.new (Some result.last) pace.new tally.new) }
-    ensures picked { PicksFrom pace.new core.new (Some result.last) result.rank T.beyond }
-{
-    let mut place = from;
-    loop {
-        match T::next(core, place.rank) {
-            Some(stage) => place = make_at::<T>(core, place.last, stage, pace, limit, tally),
-            None => return place,
-        }
     }
 }
 

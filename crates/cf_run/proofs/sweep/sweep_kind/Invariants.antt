@@ -1,16 +1,18 @@
 use Rattle.std.proofs.Common.{◌-◌, Some}
+use Rattle.cf_index.specs.Left.{AreLeft}
 use Rattle.cf_run.specs.Policies.{most_moves}
 use Rattle.cf_run.specs.Sweeps.{IsSweeping, PicksFrom, SweepsTo, rule_at, silent}
 use Rattle.cf_run.proofs.sweep.sweep_kind.Given as goal
 
--- turns of the rule lead here, and its next pick is looked for from here
+-- turns of the rule lead here, its next pick is looked for from here, and the word has the stages at which the kind has moves left
 abbrev pub invariant-loop-stage : goal.invariant-loop-stage
 invariant-loop-stage g l =
     record {
-      swept : SweepsTo l.limit silent (rule_at l.initial.core (Some l.fn.from.last) l.initial.pace l.initial.tally)
+      swept : SweepsTo l.limit silent (rule_at l.initial.core (Some l.fn.from.last) l.pace l.initial.tally)
           (rule_at l.core (Some l.place.last) l.pace l.tally);
       ready : IsSweeping l.limit (rule_at l.core (Some l.place.last) l.pace l.tally);
-      picked : PicksFrom l.pace l.core (Some l.place.last) l.place.rank g.T.SweptKind.from;
+      picked : PicksFrom l.pace l.core (Some l.place.last) l.place.rank g.T.StageKind.from;
+      stages : AreLeft l.core.plan l.core.state l.place.rank g.T.StageKind.at_stage l.left;
     }
 
 abbrev pub decreases-loop-stage : goal.decreases-loop-stage
