@@ -42,8 +42,8 @@ of_either w v k = ap (λ (b : ℕ). nat_eq b 1) (bit_at_or w v k) ∙ or_bit (bi
 -- the stages of either word
 or_words : (f g : ℕ → Bool) (n : ℕ) → n ≤ 32 → bit_or (word_of f n) (word_of g n) ≡ word_of (λ k. f k || g k) n
 or_words f g n few =
-    same-words (bit_or (word_of f n) (word_of g n)) (word_of (λ k. f k || g k) n) (or_lt 32 (word_of f n) (word_of g n) (word-small f n few) (word-small g n few))
-    (word-small (λ k. f k || g k) n few) (λ k below. bit k (nat_lt k n) refl)
+    same-words (bit_or (word_of f n) (word_of g n)) (word_of (λ k. f k || g k) n)
+    (or_lt 32 (word_of f n) (word_of g n) (word-small f n few) (word-small g n few)) (word-small (λ k. f k || g k) n few) (λ k below. bit k (nat_lt k n) refl)
   where
     bit : (k : ℕ) (inside : Bool) → nat_lt k n ≡ inside → has_bit (bit_or (word_of f n) (word_of g n)) k ≡ has_bit (word_of (λ k. f k || g k) n) k
     bit k true e =
@@ -106,7 +106,12 @@ record SiteStages (plan : Plan) (site : SidingStages) : Type 0 where
 site_stages : (plan : Plan) (c : Class) (site : SidingStages) → IsAccepted plan → AreSidingStages plan c site → SiteStages plan site
 site_stages plan c site acc are =
     let w = siding_within plan site.number acc are.inside in
-    record { launch_low = rw are.launch w.low; launch_high = rw are.launch w.low_in; recover_low = rw are.recover w.high; recover_high = rw are.recover w.high_in }
+    record {
+      launch_low = rw are.launch w.low;
+      launch_high = rw are.launch w.low_in;
+      recover_low = rw are.recover w.high;
+      recover_high = rw are.recover w.high_in;
+    }
 
 pub launch-low : (plan : Plan) (c : Class) (site : SidingStages) → IsAccepted plan → AreSidingStages plan c site → 0 < site.launch
 launch-low plan c site acc are = (site_stages plan c site acc are).launch_low
@@ -204,7 +209,8 @@ blocks-word plan s p packets passengers top stops n h flying riding count at sto
     let one = flying ∙ ap (word_of flies) h.stages in
     let two = ap (λ (w : ℕ). w / 2 ^ 1) (riding ∙ ap (word_of rides) h.stages)
     ∙ next_word rides plan.stages few (above_none s.cells plan.stages (λ c. is_some c.passenger) h.stages) in
-    let three = at ∙ ap (λ (k : ℕ). with_bit 0 (k - 1) true) number ∙ one_stage plan.stages plan.stages true (omega (arith, h.accepted.stages.0)) (omega arith) few in
+    let three = at ∙ ap (λ (k : ℕ). with_bit 0 (k - 1) true) number
+    ∙ one_stage plan.stages plan.stages true (omega (arith, h.accepted.stages.0)) (omega arith) few in
     let first = or_words flies (λ k. rides (k + 1)) plan.stages few in
     let second = or_words (λ k. flies k || rides (k + 1)) (λ k. true && plan.stages == k) plan.stages few in
     let third = or_words (λ k. flies k || rides (k + 1) || (true && plan.stages == k)) (stops_at plan p) plan.stages few in

@@ -26,5 +26,6 @@ pub mod Rides
 pub mod Blocks
 pub mod Lifts
 pub mod LiftedMarks
+pub mod ClimbMarks
 pub mod StillMarks
 pub mod Tabled

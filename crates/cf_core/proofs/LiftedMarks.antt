@@ -32,14 +32,14 @@ pub climbed-facts : (p new : Processor) (i n : ℕ) → IsProcessor p.plan p.sta
 climbed-facts p new i n h is = rw is (kept_along p i n h)
 
 -- the two stages of a lift
-record Ends (p : Processor) (i j : ℕ) : Type 0 where
-  from : Cell
-  to : Cell
-  here : cell_at p.state.cells i ≡ Some from
-  there : cell_at p.state.cells j ≡ Some to
-  is : cells_lifted p.state.cells i j ≡ put_cell (put_cell p.state.cells i (without_passenger from)) j (with_new_passenger from.passenger to)
+pub record Ends (p : Processor) (i j : ℕ) : Type 0 where
+  pub from : Cell
+  pub to : Cell
+  pub here : cell_at p.state.cells i ≡ Some from
+  pub there : cell_at p.state.cells j ≡ Some to
+  pub is : cells_lifted p.state.cells i j ≡ put_cell (put_cell p.state.cells i (without_passenger from)) j (with_new_passenger from.passenger to)
 
-ends : (p : Processor) (i j : ℕ) → IsProcessor p.plan p.state → 0 < i → i < j → j ≤ p.plan.stages → Ends p i j
+pub ends : (p : Processor) (i j : ℕ) → IsProcessor p.plan p.state → 0 < i → i < j → j ≤ p.plan.stages → Ends p i j
 ends p i j h low up within =
     let n = h.stages in
     let c = stood p.state.cells i low (omega arith) in

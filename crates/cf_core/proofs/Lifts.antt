@@ -28,15 +28,24 @@ use Rattle.cf_core.proofs.moves.KeptServe.{unbarred}
 -- Stages in which an instruction was lifted --
 
 -- what is in the stage that it came to
-at_top : (cells : List Cell) (i k : ℕ) (c e : Cell) → cell_at cells i ≡ Some c → cell_at cells k ≡ Some e →
+pub at-top : (cells : List Cell) (i k : ℕ) (c e : Cell) → cell_at cells i ≡ Some c → cell_at cells k ≡ Some e →
     cell_at (cells_lifted cells i k) k ≡ Some (with_new_passenger c.passenger e)
-at_top cells i k c e here there =
+at-top cells i k c e here there =
     let m = put_cell cells i (without_passenger c) in
     let high : k ≤ length m = rw (length-put cells i (without_passenger c)) (stage-high cells k e there) in
     ap (λ (cs : List Cell). cell_at cs k) (lifted-there cells i k c e here there)
     ∙ cell-put m k (with_new_passenger c.passenger e) (stage-low cells k e there) high
 
--- and in any other but the one that it left
+-- in the one that it left
+pub at-bottom : (cells : List Cell) (i k : ℕ) (c e : Cell) → i ≢ k → cell_at cells i ≡ Some c → cell_at cells k ≡ Some e →
+    cell_at (cells_lifted cells i k) i ≡ Some (without_passenger c)
+at-bottom cells i k c e off here there =
+    let m = put_cell cells i (without_passenger c) in
+    ap (λ (cs : List Cell). cell_at cs i) (lifted-there cells i k c e here there)
+    ∙ cell-put-other m k i (with_new_passenger c.passenger e) off
+    ∙ cell-put cells i (without_passenger c) (stage-low cells i c here) (stage-high cells i c here)
+
+-- and in any other
 elsewhere : (cells : List Cell) (i k l : ℕ) (c e : Cell) → cell_at cells i ≡ Some c → cell_at cells k ≡ Some e → l ≢ i → l ≢ k →
     cell_at (cells_lifted cells i k) l ≡ cell_at cells l
 elsewhere cells i k l c e here there off far =
@@ -56,7 +65,7 @@ lifted_on cells i k l c e d up on_up here there beyond none unmet =
     let m = put_cell cells i (without_passenger c) in
     let e1 = with_new_passenger c.passenger e in
     let d1 = with_new_passenger c.passenger d in
-    let top = at_top cells i k c e here there in
+    let top = at-top cells i k c e here there in
     let rest = elsewhere cells i k l c e here there (λ g. absurd (omega arith)) (λ g. absurd (omega arith)) ∙ beyond in
     let again = cell-put-other cells i k (without_passenger c) (λ g. absurd (omega arith)) ∙ there in
     lifted-there (cells_lifted cells i k) k l e1 d top rest
@@ -117,15 +126,15 @@ tests false true false = refl
 tests false false true = refl
 tests false false false = refl
 
-at_top_stage : (packet stops : Bool) → true ≡ (packet || false || true || stops)
-at_top_stage true stops = refl
-at_top_stage false stops = refl
+highest_stage : (packet stops : Bool) → true ≡ (packet || false || true || stops)
+highest_stage true stops = refl
+highest_stage false stops = refl
 
 blocked_by : (plan : Plan) (q : Passenger) (e : Cell) (k : ℕ) (o : Option Cell) (top : Bool) → plan.stages == k ≡ top → top ≡ on o true (λ d. false) →
     is_some q.owes ≡ false →
     is_some (climb_bar plan (with_new_passenger (Some q) e) k o)
     ≡ (is_some e.packet || on o false (λ d. is_some d.passenger) || plan.stages == k || stops_at plan q k)
-blocked_by plan q e k None top t is owes = rw (t, is) (at_top_stage (is_some e.packet) (stops_at plan q k))
+blocked_by plan q e k None top t is owes = rw (t, is) (highest_stage (is_some e.packet) (stops_at plan q k))
 blocked_by plan q e k (Some d) top t is owes = rw (t, is, owes) (tests (is_some e.packet) (is_some d.passenger) (stops_at plan q k))
 
 -- it is barred if and only if the instruction is blocked there
@@ -133,7 +142,7 @@ row_at : (plan : Plan) (s : State) (i k : ℕ) (q : Passenger) (c e : Cell) → 
     c.passenger ≡ Some q → is_some q.owes ≡ false → cell_at s.cells k ≡ Some e →
     is_some (row_bar plan (record s { cells = cells_lifted s.cells i k }) (Climb k)) ≡ is_blocked_at plan s q k
 row_at plan s i k q c e count up here rides owes there =
-    let top = at_top s.cells i k c e here there in
+    let top = at-top s.cells i k c e here there in
     let above = elsewhere s.cells i k (k + 1) c e here there (λ g. absurd (omega (arith, up, g))) (λ g. absurd (omega (arith, g))) in
     let high = stage-high s.cells k e there in
     rw (top, above, there, rides) (blocked_by plan q e k (cell_at s.cells (k + 1)) (plan.stages == k) refl (is_top (cell_at s.cells (k + 1)) refl) owes)
@@ -145,27 +154,28 @@ row_at plan s i k q c e count up here rides owes there =
 -- All of them --
 
 -- an instruction that can climb
-record Rider (p : Processor) (i : ℕ) (q : Passenger) : Type 0 where
-  facts : IsProcessor p.plan p.state
-  free : bar p.plan p.state (Climb i) ≡ None
-  from : Cell
-  here : cell_at p.state.cells i ≡ Some from
-  rides : from.passenger ≡ Some q
-  owes : is_some q.owes ≡ false
-  room : passenger_at p.state.cells (i + 1) ≡ None
+pub record Rider (p : Processor) (i : ℕ) (q : Passenger) : Type 0 where
+  pub facts : IsProcessor p.plan p.state
+  pub free : bar p.plan p.state (Climb i) ≡ None
+  pub from : Cell
+  pub here : cell_at p.state.cells i ≡ Some from
+  pub rides : from.passenger ≡ Some q
+  pub owes : is_some q.owes ≡ false
+  pub stays : stops_at p.plan q i ≡ false
+  pub room : passenger_at p.state.cells (i + 1) ≡ None
 
 climb_tests : (plan : Plan) (c : Cell) (i : ℕ) (q : Passenger) (o : Option Cell) → c.passenger ≡ Some q → climb_bar plan c i o ≡ None →
-    (is_some q.owes ≡ false) × (on o None (λ d. d.passenger) ≡ None)
+    (is_some q.owes ≡ false) × (stops_at plan q i ≡ false) × (on o None (λ d. d.passenger) ≡ None)
 climb_tests plan c i q None rides row = absurd (cc)
-climb_tests plan c i q (Some d) rides row = (grind arith, grind arith)
+climb_tests plan c i q (Some d) rides row = (grind arith, grind arith, grind arith)
 
-rider : (p : Processor) (i : ℕ) (q : Passenger) → IsProcessor p.plan p.state → bar p.plan p.state (Climb i) ≡ None → passenger_at p.state.cells i ≡ Some q →
+pub rider : (p : Processor) (i : ℕ) (q : Passenger) → IsProcessor p.plan p.state → bar p.plan p.state (Climb i) ≡ None → passenger_at p.state.cells i ≡ Some q →
     Rider p i q
 rider p i q facts free rides =
     let h = here-by (cell_at p.state.cells i) q rides in
     let row = rw h.1 at (unbarred p.plan p.state (Climb i) free) in
     let t = climb_tests p.plan h.0 i q (cell_at p.state.cells (i + 1)) h.2 row in
-    record { facts = facts; free = free; from = h.0; here = h.1; rides = h.2; owes = t.0; room = t.1 }
+    record { facts = facts; free = free; from = h.0; here = h.1; rides = h.2; owes = t.0; stays = t.1; room = t.2 }
 
 -- the stages that it passes hold nothing
 free_parts : (a b c d : Bool) → (a || b || c || d) ≡ false → (a ≡ false) × (b ≡ false)

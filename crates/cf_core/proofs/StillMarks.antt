@@ -67,7 +67,7 @@ put_same plan s i b c here same =
 -- Moves of a result --
 
 -- the row of Launch for an instruction, whether or not it has still to meet a result
-abbrev entry_row : Plan → State → Bool → ℕ → Passenger → Option Bar
+abbrev pub entry_row : Plan → State → Bool → ℕ → Passenger → Option Bar
 entry_row plan s full i p = first_bar_of (
     (p.dead, Dead) ∷
     (p.done || p.launched, AlreadyDone) ∷
@@ -348,9 +348,9 @@ unlaunched false false false true ends true memory full rest e = absurd (cc)
 unlaunched false false false false true true memory full rest e = absurd (cc)
 unlaunched false false false false false true memory full rest e = absurd (cc)
 
-rider_unlaunched : (plan : Plan) (s : State) (i : ℕ) (p : Passenger) (full : Bool) → stops_at plan p i ≡ false →
+pub rider-unlaunched : (plan : Plan) (s : State) (i : ℕ) (p : Passenger) (full : Bool) → stops_at plan p i ≡ false →
     not (is_some (entry_row plan s full i p)) ≡ false
-rider_unlaunched plan s i p full stays =
+rider-unlaunched plan s i p full stays =
     unlaunched p.dead p.done p.launched (p.launched && not p.recovered && recovers plan (kind p) i) (ends_units plan (kind p) i) (launches plan (kind p) i)
     (is_memory (kind p)) full (source_bar p (entry_bar plan s p)) stays
 
@@ -372,7 +372,7 @@ passing_keeps plan s i stays passed = by_cell (cell_at s.cells i) refl stays pas
         (packet_mark plan s i c m.packet (is_some m.packet) (after ∙ sym before)))
       where
         riding : (full : Bool) (o : Option Passenger) → o ≡ Some p → not (is_some (on o (Some NoPassenger) (entry_row plan s full i))) ≡ false
-        riding full o is = rw is (rider_unlaunched plan s i p full stays)
+        riding full o is = rw is (rider-unlaunched plan s i p full stays)
 
     by_rider : (c : Cell) (o : Option Passenger) → cell_at s.cells i ≡ Some c → c.passenger ≡ o → on o false (λ p. stops_at plan p i) ≡ false →
         on o false (λ p. on c.packet false (is_passed_by p)) ≡ true →

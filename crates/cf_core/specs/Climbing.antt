@@ -1,6 +1,6 @@
 -- An instruction that climbs on, one stage after another, as far as it can ("Counterflow Pipeline Processor Architecture",
 -- 1994: instructions advance when the stage above is free).
-use Rattle.std.specs.Prelude.{◌≡◌, ◌==◌, ◌||◌, ℕ, zero, suc, ◌+◌, ◌-◌, ◌<◌, ◌≤◌, Bool, true, false, None}
+use Rattle.std.specs.Prelude.{◌≡◌, ◌==◌, IsNone, IsSome, ◌||◌, ℕ, zero, suc, ◌+◌, ◌-◌, ◌<◌, ◌≤◌, Bool, true, false, None}
 use Rattle.cf_bind.specs.declared.cell.Cell.{Cell}
 use Rattle.cf_bind.specs.declared.moves.Move.TheVariants.{Climb}
 use Rattle.cf_bind.specs.declared.passenger.Passenger.{Passenger}
@@ -8,7 +8,11 @@ use Rattle.cf_layout.specs.Layout.{Plan}
 use Rattle.cf_semantics.specs.moves.Bars.{bar, stops_at}
 use Rattle.cf_semantics.specs.state.Options.{is_some, on}
 use Rattle.cf_semantics.specs.state.State.{State, cell_at}
+use Rattle.cf_stages.specs.Changes.{passenger_at}
+use Rattle.cf_core.specs.Marks.{marked, no_mark}
+use Rattle.cf_core.specs.Masks.{owes_at}
 use Rattle.cf_core.specs.Processors.{Processor, after_move}
+use Rattle.cf_core.specs.declared.marks.Marks.{Marks}
 
 -- the processor after the instruction of stage i has climbed by this many stages
 unfoldable pub climbed : Processor → ℕ → ℕ → Processor
@@ -41,3 +45,16 @@ pub record ClimbsTo (p : Processor) (i j : ℕ) : Type 0 where
   pub higher : i < j
   pub each : (n : ℕ) → n < j - i → climbs_on p i n
   pub ends : climbs_on p i (j - i) → ⊥
+
+-- an instruction that owes nothing has come from stage i to stage j, and the words are still those from before: nothing was
+-- in stage j, and in stage i the instruction could at most be executed, since it did not stop there
+pub record HasClimbed (plan : Plan) (s : State) (marks : Marks) (i j : ℕ) : Type 0 where
+  pub low : 0 < i
+  pub higher : i < j
+  pub within : j ≤ plan.stages
+  pub gone : IsNone (passenger_at s.cells i)
+  pub here : IsSome (passenger_at s.cells j)
+  pub owes : owes_at s j ≡ false
+  pub could : Bool
+  pub left : marked marks i (record no_mark { execute = could }) ≡ marks
+  pub free : marked marks j no_mark ≡ marks

@@ -16,7 +16,6 @@ use crate::counterflow::Core;
 use crate::processor::Processor;
 use crate::riding::{is_idle, is_out, is_undone};
 use crate::stations::SidingStages;
-use crate::touching::Touched;
 use cf_bind::Passenger;
 use cf_passengers::kind;
 use cf_stages::with_bit;
@@ -141,9 +140,7 @@ impl Core {
         if spent {
             return to;
         }
-        self.marks = self
-            .processor
-            .remarked(self.marks, Touched { low: i, high: to });
+        self.marks = self.processor.remarked_by_climb(self.marks, i, to);
         to
     }
 }

@@ -18,6 +18,7 @@ mod old_number;
 mod opening;
 mod pipe_ends;
 mod processor;
+mod remarking;
 mod riding;
 mod rows;
 mod same;
