@@ -6,6 +6,7 @@ pub mod KeptEnds
 pub mod KeptSidings
 pub mod KeptMoves
 pub mod KeptServe
+pub mod Issuing
 pub mod Guesses
 pub mod Meetings
 pub mod Riding

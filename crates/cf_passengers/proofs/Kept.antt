@@ -1,6 +1,6 @@
 -- The invariants of instructions and results are preserved by all that happens to them.
 use Rattle.std.proofs.Common.{◌≡◌, ◌≢◌, ℕ, List, Option, Some, None, Bool, true, false, refl}
-use Rattle.std.specs.Prelude.{IfSome, ◌==◌, if◌then◌else◌}
+use Rattle.std.specs.Prelude.{IfOk, IfSome, Result, Ok, Err, ◌==◌, if◌then◌else◌}
 use Rattle.std.proofs.lemmas.Option.{IfSome_then}
 use Rattle.rv_inst.specs.declared.classes.Class.{Class}
 use Rattle.rv_inst.specs.declared.classes.Class.TheVariants as class
@@ -23,6 +23,7 @@ use Rattle.cf_semantics.specs.moves.Instructions.{Fetched, Got, Bad, kind_of, fr
 use Rattle.cf_semantics.specs.state.Passengers.{fresh, fresh_as, fresh_undone, fresh_fence, fresh_end, finish, finished, trapped, with_value, value_packet, instruction, guessed, is_place, value_in}
 use Rattle.cf_semantics.specs.moves.Moves.{back_in, answered, operation}
 use Rattle.cf_passengers.specs.Facts.{IsWritable, IsBinding, IsPacket, IsInstruction, IsFetched, IsOperation, IsPassenger}
+use Rattle.cf_passengers.specs.Issuing.{meant}
 use Rattle.cf_passengers.proofs.Registers.{issued-src1, issued-src2, issued-dst}
 
 -- Issue --
@@ -65,6 +66,12 @@ pub fresh-passenger : (isa : Isa) (cache : List (Option ℕ)) (f : Fetched) (pc 
 unfolding fresh
 fresh-passenger isa cache (Got i) pc g h = passenger_as isa (kind_of i) cache i pc g h
 fresh-passenger isa cache (Bad e) pc g h = end-passenger isa None pc g e tt
+
+-- the same where fetch answers with an instruction of the set or with a trap
+pub issued-passenger : (isa : Isa) (cache : List (Option ℕ)) (r : Result Instr End) (pc : ℕ) (g : Guess) → IfOk r (IsInstruction isa) →
+    IsPassenger isa (fresh cache (meant r) pc g)
+issued-passenger isa cache (Ok i) pc g h = fresh-passenger isa cache (Got i) pc g h
+issued-passenger isa cache (Err e) pc g h = fresh-passenger isa cache (Bad e) pc g tt
 
 -- Finish, and the other ways to finish an instruction --
 
@@ -191,9 +198,7 @@ passenger-instruction isa p h = instruction-in isa p.what h.instr
 pub operation-of_set : (isa : Isa) (p : Passenger) → IsPassenger isa p → IsOperation isa (operation p)
 operation-of_set isa p h = passenger-instruction isa p h
 
-pub ruleset issuing = (undone_as, fence-passenger, end-passenger)
-
-pub ruleset issuing_undone = (undone-passenger)
+pub ruleset issuing = (undone_as, issued-passenger)
 
 pub ruleset kept = (
   trapped-passenger,

@@ -1,12 +1,12 @@
 //! Fetching at an address, and the `Passenger` that is issued for what was fetched.
 
-ghost use Rattle.std.specs.Prelude.{◌≡◌, ◌<◌, [], false, IfOk, IfSome};
+ghost use Rattle.std.specs.Prelude.{◌≡◌, ◌<◌, [], true, Some, IfOk};
 ghost use Rattle.rv_inst.specs.Ranges.{Fits};
 ghost use Rattle.rv_inst.specs.declared.isa.Isa.{Isa as InstructionSet};
-ghost use Rattle.cf_semantics.specs.moves.Instructions.{fetched as what_is_fetched, register, free_trap, Got};
-ghost use Rattle.cf_semantics.specs.state.Passengers.{source as source_of, destination as destination_of, fresh as fresh_passenger, fresh_as, fresh_end, fresh_undone};
+ghost use Rattle.cf_semantics.specs.moves.Instructions.{fetched as what_is_fetched, register, free_trap, src1_of, src2_of, dst_of, Got};
+ghost use Rattle.cf_semantics.specs.state.Passengers.{source as source_of, destination as destination_of, fresh as fresh_passenger, fresh_as};
 ghost use Rattle.cf_semantics.specs.state.Layouts.{isa_of as set_of};
-ghost use Rattle.cf_passengers.specs.Issuing.{meant};
+ghost use Rattle.cf_passengers.specs.Issuing.{blank as blank_passenger, meant};
 ghost use Rattle.cf_passengers.specs.Facts.{IsInstruction, IsPassenger};
 
 use crate::guessing::word_after;
@@ -105,14 +105,14 @@ fn trap_when_free(i: Instr, pc: u32) -> Option<End>
     }
 }
 
-/// A `Passenger` with an instruction, an address and a guess, and nothing else.
+/// What is issued at the address with the guess, before anything else of it is known.
 #[inline(always)]
-fn blank(what: Option<Instr>, pc: u32, guess: Guess) -> Passenger
-    ensures { result ≡ record { pc = pc; what = what; guess = guess; src1 = None; src2 = None; dst = None; done = false; launched = false; recovered = false; next = None; ending = None; owes = None; dead = false } }
+pub fn blank(pc: u32, guess: Guess) -> Passenger
+    ensures { result ≡ blank_passenger pc guess }
 {
     Passenger {
         pc,
-        what,
+        what: None,
         guess,
         src1: None,
         src2: None,
@@ -127,81 +127,85 @@ fn blank(what: Option<Instr>, pc: u32, guess: Guess) -> Passenger
     }
 }
 
-/// An instruction that ends the program when it is issued.
+/// The instruction ends the program as soon as it is issued.
 #[inline(always)]
-#[tactic(auto, using(crate::proofs::Kept::issuing))]
-fn ended(what: Option<Instr>, pc: u32, guess: Guess, end: End) -> Passenger
-    ensures passenger { result ≡ fresh_end what pc guess end }
-    ensures facts { (isa : InstructionSet) → IfSome what (λ i. IsInstruction isa i) → IsPassenger isa result }
+fn end_at_once(p: &mut Passenger, end: End)
+    ensures { p.new ≡ record p.old { done = true; ending = Some end } }
 {
-    Passenger {
-        done: true,
-        ending: Some(end),
-        ..blank(what, pc, guess)
-    }
+    p.done = true;
+    p.ending = Some(end);
 }
 
-/// An instruction that still has to be computed, or to be answered by the environment.
+/// The instruction still has to be computed, or to be answered by the environment: it gets its sources and its
+/// destination.
 #[inline(always)]
-#[tactic(auto, using(crate::proofs::Kept::issuing_undone), unfolding(cf_semantics::specs::moves::Instructions::src1_of, cf_semantics::specs::moves::Instructions::src2_of, cf_semantics::specs::moves::Instructions::dst_of))]
-fn undone(ends: &Ends, i: Instr, pc: u32, guess: Guess) -> Passenger
+#[tactic(auto, unfolding(cf_semantics::specs::moves::Instructions::src1_of, cf_semantics::specs::moves::Instructions::src2_of, cf_semantics::specs::moves::Instructions::dst_of))]
+fn bind(p: &mut Passenger, ends: &Ends, i: Instr)
     requires { Fits i }
-    ensures passenger { result ≡ fresh_undone ends.now.cache i pc guess }
-    ensures facts { (isa : InstructionSet) → IsInstruction isa i → IsPassenger isa result }
+    ensures { p.new ≡ record p.old { src1 = source_of ends.now.cache (src1_of i); src2 = source_of ends.now.cache (src2_of i); dst = destination_of (dst_of i) } }
 {
     let (first, second) = sources(i);
-    Passenger {
-        src1: source(ends, first),
-        src2: source(ends, second),
-        dst: destination(dest(i)),
-        ..blank(Some(i), pc, guess)
-    }
+    p.src1 = source(ends, first);
+    p.src2 = source(ends, second);
+    p.dst = destination(dest(i));
 }
 
-/// An instruction that is done as soon as it is issued: EBREAK, which ends the program, or FENCE, which has nothing to
-/// do.
+/// The instruction is done as soon as it is issued: EBREAK, which ends the program, or FENCE, which has nothing to do.
 #[inline(always)]
-#[tactic(auto, using(crate::proofs::Kept::issuing))]
-fn free(i: Instr, pc: u32, guess: Guess) -> Passenger
-    ensures passenger { result ≡ fresh_as Class.Free [] i pc guess }
-    ensures facts { (isa : InstructionSet) → IsInstruction isa i → IsPassenger isa result }
+fn free(p: &mut Passenger, i: Instr)
+    requires { p.old ≡ record (blank_passenger p.old.pc p.old.guess) { what = Some i } }
+    ensures { p.new ≡ fresh_as Class.Free [] i p.old.pc p.old.guess }
 {
-    match trap_when_free(i, pc) {
-        Some(end) => ended(Some(i), pc, guess, end),
-        None => Passenger {
-            done: true,
-            next: Some(word_after(pc)),
-            ..blank(Some(i), pc, guess)
-        },
+    match trap_when_free(i, p.pc) {
+        Some(end) => end_at_once(p, end),
+        None => {
+            p.done = true;
+            p.next = Some(word_after(p.pc));
+        }
     }
 }
 
-/// The `Passenger` that is issued for a decoded instruction.
+/// The decoded instruction is issued in its place.
 #[inline(always)]
 #[tactic(auto, using(crate::proofs::Kept::issuing), unfolding(cf_semantics::specs::moves::Instructions::kind_of, cf_semantics::specs::state::Passengers::fresh))]
-fn issued(ends: &Ends, i: Instr, pc: u32, guess: Guess) -> Passenger
-    requires { Fits i }
-    ensures passenger { result ≡ fresh_passenger ends.now.cache (Got i) pc guess }
-    ensures facts { (isa : InstructionSet) → IsInstruction isa i → IsPassenger isa result }
+fn issue_decoded(p: &mut Passenger, ends: &Ends, i: Instr)
+    requires blank { p.old ≡ blank_passenger p.old.pc p.old.guess }
+    requires fits { Fits i }
+    ensures { p.new ≡ fresh_passenger ends.now.cache (Got i) p.old.pc p.old.guess }
 {
+    p.what = Some(i);
     match class_of(i) {
-        Class::Free => free(i, pc, guess),
-        _ => undone(ends, i, pc, guess),
+        Class::Free => free(p, i),
+        _ => bind(p, ends, i),
     }
 }
 
-/// The `Passenger` that is issued for what was fetched at `pc`. A trap or EBREAK is done and ends the program there;
-/// FENCE is done. Any other has its sources and its destination, without x0; a source has the cached value of its
-/// register, if there is one.
+/// What was fetched at the address of the blank `Passenger` is issued in its place. A trap or EBREAK is done and ends the
+/// program there; FENCE is done. Any other has its sources and its destination, without x0; a source has the cached
+/// value of its register, if there is one.
 #[inline(always)]
 #[tactic(auto, using(crate::proofs::Kept::issuing), unfolding(cf_semantics::specs::state::Passengers::fresh))]
-pub fn fresh(ends: &Ends, fetched: Result<Instr, End>, pc: u32, guess: Guess) -> Passenger
-    requires { IfOk fetched (λ i. Fits i) }
-    ensures passenger { result ≡ fresh_passenger ends.now.cache (meant fetched) pc guess }
-    ensures facts { (isa : InstructionSet) → IfOk fetched (λ i. IsInstruction isa i) → IsPassenger isa result }
+pub fn issue(p: &mut Passenger, ends: &Ends, fetched: Result<Instr, End>)
+    requires blank { p.old ≡ blank_passenger p.old.pc p.old.guess }
+    requires fits { IfOk fetched (λ i. Fits i) }
+    ensures passenger { p.new ≡ fresh_passenger ends.now.cache (meant fetched) p.old.pc p.old.guess }
+    ensures facts { (isa : InstructionSet) → IfOk fetched (λ i. IsInstruction isa i) → IsPassenger isa p.new }
 {
     match fetched {
-        Ok(i) => issued(ends, i, pc, guess),
-        Err(end) => ended(None, pc, guess, end),
+        Ok(i) => issue_decoded(p, ends, i),
+        Err(end) => end_at_once(p, end),
     }
+}
+
+/// What is at the address of the blank `Passenger` is issued in its place, as by `issue`.
+// It is not inlined, so that each field is written where it is to stand; inlined, all of them are put together in
+// registers and on the stack first, and merged from every kind of instruction.
+#[inline(never)]
+pub fn fetch_and_issue(p: &mut Passenger, ends: &Ends, isa: Isa, mem: &Regions)
+    requires { p.old ≡ blank_passenger p.old.pc p.old.guess }
+    ensures passenger { p.new ≡ fresh_passenger ends.now.cache (what_is_fetched isa mem.now p.old.pc) p.old.pc p.old.guess }
+    ensures facts { IsPassenger isa p.new }
+{
+    let fetched = fetched(isa, mem, p.pc);
+    issue(p, ends, fetched);
 }

@@ -2,23 +2,25 @@
 
 use cf_bind::{Binding, End, Guess, Packet, Passenger};
 use cf_ends::Ends;
-use cf_passengers::{answered, finish, fresh, goto, kind, requests};
+use cf_passengers::{answered, blank, finish, goto, issue, kind, requests};
 use rv_inst::{Class, decode};
 use std::process::Abort;
 
 /// The `Passenger` that is issued for a word.
 fn issued(ends: &Ends, word: u32, pc: u32, guess: Guess) -> Passenger {
+    let mut passenger = blank(pc, guess);
     match decode(word) {
-        Some(i) => fresh(ends, Ok(i), pc, guess),
+        Some(i) => issue(&mut passenger, ends, Ok(i)),
         None => {
             let end = End::Trap {
                 cause: 2,
                 pc,
                 detail: word,
             };
-            fresh(ends, Err(end), pc, guess)
+            issue(&mut passenger, ends, Err(end))
         }
     }
+    passenger
 }
 
 /// The instruction after its execution, if it adds or jumps.

@@ -10,7 +10,7 @@ ghost use Rattle.cf_semantics.specs.state.Layouts.{isa_of as set_of};
 ghost use Rattle.cf_stages.specs.Changes.{passenger_at};
 ghost use Rattle.cf_passengers.specs.Facts.{IsPassenger, IsWritable, IsBinding};
 ghost use Rattle.cf_passengers.specs.Waiting.{listed_one, listed};
-ghost use Rattle.cf_core.specs.Ends.{issued_at as issued_there, requested, forgotten};
+ghost use Rattle.cf_core.specs.Ends.{issued_at as issued_there, entered, requested, forgotten};
 ghost use Rattle.cf_core.specs.Marks.{row_allows};
 ghost use Rattle.cf_core.specs.Masks.{is_allowed};
 ghost use Rattle.cf_core.specs.Processors.{IsProcessor, in_state, after_move};
@@ -20,7 +20,7 @@ use crate::issuing::Issuable;
 use crate::processor::Processor;
 use crate::rows::first_of;
 use cf_bind::{Bar, Binding, Fetch, Guess, Passenger};
-use cf_passengers::{RequestedSources, fetched, fresh, goto, may_guess, requests};
+use cf_passengers::{RequestedSources, blank, fetch_and_issue, goto, may_guess, requests};
 
 /// Fetch at the address; if there is none, fetch waits.
 #[inline(always)]
@@ -40,8 +40,9 @@ impl Processor {
         ensures passenger { result ≡ issued_there self.now.plan self.now.state pc guess }
         ensures facts { IsPassenger (set_of self.now.plan) result }
     {
-        let instruction = fetched(self.isa, &self.memory, pc);
-        fresh(&self.ends, instruction, pc, guess)
+        let mut passenger = blank(pc, guess);
+        fetch_and_issue(&mut passenger, &self.ends, self.isa, &self.memory);
+        passenger
     }
 
     /// The first bar of Issue with this guess.
@@ -97,19 +98,37 @@ impl Processor {
         }
     }
 
+    /// The instruction at the address enters the lowest stage with the guess. It is put together there.
+    #[inline(always)]
+    #[tactic(auto, using(crate::proofs::moves::Issuing::issuing))]
+    fn enter(&mut self, pc: u32, guess: Guess)
+        requires { row_bar self.old.plan self.old.state (mv.Issue guess) ≡ None }
+        ensures state { self.new ≡ in_state self.old (entered self.old.plan self.old.state pc guess) }
+        ensures facts { IsPassenger (set_of self.old.plan) (issued_there self.old.plan self.old.state pc guess) }
+    {
+        self.stages.put_passenger(blank(pc, guess));
+        let passenger = self.stages.passenger_mut(1);
+        fetch_and_issue(passenger, &self.ends, self.isa, &self.memory);
+    }
+
     /// A new instruction enters the lowest stage, and fetch goes on by the guess.
     #[inline(never)]
-    #[tactic(auto, unfolding(cf_semantics::specs::moves::Moves::moved))]
+    #[tactic(auto, using(crate::proofs::moves::Issuing::issued), unfolding(cf_semantics::specs::moves::Moves::moved))]
     pub(crate) fn issue(&mut self, guess: Guess)
         requires { row_bar self.old.plan self.old.state (mv.Issue guess) ≡ None }
         ensures { self.new ≡ after_move self.old (mv.Issue guess) }
     {
         if let Fetch::Running(pc) = self.ends.fetch() {
-            let passenger = self.issued_at(pc, guess);
-            self.stages.put_passenger(passenger);
-            self.request(requests(&passenger));
-            self.forget(passenger.dst);
-            self.ends.set_fetch(fetch_at(goto(&passenger)));
+            self.enter(pc, guess);
+            let Some(passenger) = self.stages.passenger(1) else {
+                unreachable!()
+            };
+            let asked = requests(passenger);
+            let destination = passenger.dst;
+            let place = goto(passenger);
+            self.request(asked);
+            self.forget(destination);
+            self.ends.set_fetch(fetch_at(place));
         }
     }
 
