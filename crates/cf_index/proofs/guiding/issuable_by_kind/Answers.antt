@@ -4,24 +4,24 @@ use Rattle.cf_index.proofs.guiding.issuable_by_kind.Goals as goal
 
 pub returns-in-Ok-clause-taken : goal.returns-in-Ok-clause-taken
 returns-in-Ok-clause-taken c =
-    let got = rw (c.isa_of.ensures, c.layout.ensures.layout, c.memory.ensures) at (c.in-Ok.ensures.fetched) in
+    let got = rw (c.isa.ensures, c.memory.ensures) at (c.in-Ok.ensures.fetched) in
     c.is_direct_turn.ensures ∙ taken-by c.args.core.now.plan c.args.core.now.state c.in-Running.pc c.in-Ok.i c.requires
     (sym c.fetch.ensures ∙ c.in-Running.is) (sym got)
 
 pub returns-in-Ok-clause-wait : goal.returns-in-Ok-clause-wait
 returns-in-Ok-clause-wait c =
-    let got = rw (c.isa_of.ensures, c.layout.ensures.layout, c.memory.ensures) at (c.in-Ok.ensures.fetched) in
+    let got = rw (c.isa.ensures, c.memory.ensures) at (c.in-Ok.ensures.fetched) in
     c.is_turn.ensures ∙ wait-by c.args.core.now.plan c.args.core.now.state c.in-Running.pc c.in-Ok.i c.requires
     (sym c.fetch.ensures ∙ c.in-Running.is) (sym got)
 
 pub returns-in-Err-clause-taken : goal.returns-in-Err-clause-taken
 returns-in-Err-clause-taken c =
-    let got = rw (c.isa_of.ensures, c.layout.ensures.layout, c.memory.ensures) at (c.in-Err.ensures.fetched) in
+    let got = rw (c.isa.ensures, c.memory.ensures) at (c.in-Err.ensures.fetched) in
     (bad-by c.args.core.now.plan c.args.core.now.state c.in-Running.pc c.in-Err.field-0 c.requires (sym c.fetch.ensures ∙ c.in-Running.is) (sym got)).0
 
 pub returns-in-Err-clause-wait : goal.returns-in-Err-clause-wait
 returns-in-Err-clause-wait c =
-    let got = rw (c.isa_of.ensures, c.layout.ensures.layout, c.memory.ensures) at (c.in-Err.ensures.fetched) in
+    let got = rw (c.isa.ensures, c.memory.ensures) at (c.in-Err.ensures.fetched) in
     (bad-by c.args.core.now.plan c.args.core.now.state c.in-Running.pc c.in-Err.field-0 c.requires (sym c.fetch.ensures ∙ c.in-Running.is) (sym got)).1
 
 pub returns-in-Waiting-clause-taken : goal.returns-in-Waiting-clause-taken
