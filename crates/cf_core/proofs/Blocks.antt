@@ -1,6 +1,6 @@
 -- The word of the stages at which an instruction is blocked, and the first of them above a stage.
 use Rattle.std.proofs.Common.{◌≡◌, ◌≢◌, ◌∙◌, ℕ, zero, suc, ◌+◌, ◌-◌, ◌/◌, ◌^◌, ◌<◌, ◌≤◌, List, Option, Some, None, Bool, true, false, length, max, refl, sym, ap, arith}
-use Rattle.std.specs.Prelude.{◌==◌, ◌&&◌, ◌||◌, nat_eq, nat_lt, not}
+use Rattle.std.specs.Prelude.{◌==◌, ◌&&◌, ◌||◌, if◌then◌else◌, nat_eq, nat_lt, not}
 use Rattle.std.specs.Int.{bit_at, trailing_zeros, w32}
 use Rattle.std.specs.Int.RustNames.{bit_or}
 use Rattle.std.proofs.lemmas.Bool.Decides.{nat_tests}
@@ -21,7 +21,7 @@ use Rattle.cf_stages.proofs.Bits.{same-words, word-agrees, word-bit, word-bit-ab
 use Rattle.cf_stages.proofs.Empty.{word-none}
 use Rattle.cf_stages.proofs.Parts.{stage-high}
 use Rattle.theory_refinement.proofs.layouts.Accepted.{accepted_suits}
-use Rattle.cf_core.specs.Climbing.{IsFirstBlock, holds_at, is_blocked_at}
+use Rattle.cf_core.specs.Climbing.{IsFirstBlock, holds_at, is_blocked_at, work_of}
 use Rattle.cf_core.specs.Processors.{IsProcessor}
 use Rattle.cf_core.specs.Riders.{is_idle, is_out, is_undone}
 use Rattle.cf_core.specs.Stations.{AreSidingStages}
@@ -178,16 +178,41 @@ units-stop plan p last b acc units is all =
     ∙ rw (is, all) (in_turn (is_undone p) (not p.launched) (last_stage plan (kind p) == k))))
 
 -- with which no unit and no siding has anything left to do
-pub idle-stops : (plan : Plan) (p : Passenger) → is_idle p ≡ true → 0 ≡ word_of (stops_at plan p) plan.stages
-idle-stops plan p idle =
+idle_by : (b : Bool) (c : Class) → None ≡ (if b then None else Some c) → b ≡ true
+idle_by true c e = refl
+idle_by false c e = absurd (cc)
+
+class_by : (b : Bool) (c k : Class) → Some k ≡ (if b then None else Some c) → k ≡ c
+class_by true c k e = absurd (cc)
+class_by false c k e = cc
+
+pub no-work : (p : Passenger) → None ≡ work_of p → is_idle p ≡ true
+no-work p e = idle_by (is_idle p) (kind p) e
+
+pub work-class : (p : Passenger) (k : Class) → Some k ≡ work_of p → k ≡ kind p
+work-class p k e = class_by (is_idle p) (kind p) k e
+
+-- the class of an instruction that is there
+pub class-here : (o : Option Passenger) (p : Passenger) (k : Class) → o ≡ Some p → on o None (λ q. Some (kind q)) ≡ Some k → k ≡ kind p
+class-here o p k here is = some_same k (kind p) (sym is ∙ ap (λ (o : Option Passenger). on o None (λ q. Some (kind q))) here)
+  where
+    some_same : (a b : Class) → Some a ≡ Some b → a ≡ b
+    some_same a b e = cc
+
+pub idle-stops : (plan : Plan) (p : Passenger) (work : Option Class) → work ≡ work_of p → work ≡ None → 0 ≡ word_of (stops_at plan p) plan.stages
+idle-stops plan p work is none =
+    let idle = no-work p (sym none ∙ is) in
     sym (word-none plan.stages)
     ∙ word-agrees (λ k. false) (stops_at plan p) plan.stages (λ k low high. sym (stops-idle plan k p idle))
+
+pub class-of-work : (p : Passenger) (work : Option Class) (k : Class) → work ≡ work_of p → work ≡ Some k → k ≡ kind p
+class-of-work p work k is some = work-class p k (sym some ∙ is)
 
 pub ruleset sides = (launch-low, launch-high, recover-low, recover-high, siding-out, siding-in)
 
 pub ruleset lasts = (last-low, last-high, units-stop)
 
-pub ruleset idling = (idle-stops)
+pub ruleset working = (idle-stops, class-of-work)
 
 -- Where it is blocked --
 

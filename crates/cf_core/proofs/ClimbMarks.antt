@@ -1,6 +1,7 @@
 -- What changes in the words when an instruction that owes nothing has climbed.
 use Rattle.std.proofs.Common.{◌≡◌, ◌∙◌, ℕ, suc, ◌-◌, ◌<◌, ◌≤◌, Option, Some, None, Bool, true, false, refl, sym, ap, arith}
 use Rattle.std.specs.Prelude.{◌&&◌, ◌||◌, IsNone, IsSome, not}
+use Rattle.rv_inst.specs.declared.classes.Class.{Class}
 use Rattle.cf_bind.specs.declared.cell.Cell.{Cell}
 use Rattle.cf_bind.specs.declared.moves.Bar.{Bar}
 use Rattle.cf_bind.specs.declared.moves.Bar.TheVariants.{AlreadyDone, NoUnit}
@@ -16,13 +17,15 @@ use Rattle.cf_stages.specs.Changes.{cells_lifted, passenger_at}
 use Rattle.cf_stages.specs.Words.{with_bit, word_of}
 use Rattle.cf_stages.proofs.Bits.{word-bit, word-small}
 use Rattle.cf_stages.proofs.Carries.{bit-kept}
-use Rattle.cf_core.specs.Climbing.{ClimbsTo, HasClimbed}
+use Rattle.cf_core.specs.Climbing.{ClimbsTo, HasClimbed, work_of}
 use Rattle.cf_core.specs.Marks.{mark_at, marked, marks_of, no_mark, remarked, row_allows}
-use Rattle.cf_core.specs.Masks.{stops_there}
+use Rattle.cf_core.specs.Masks.{rides, stops_there}
 use Rattle.cf_core.specs.Places.{with_cells}
 use Rattle.cf_core.specs.Processors.{IsProcessor, Processor}
+use Rattle.cf_core.specs.Riders.{is_spent}
 use Rattle.cf_core.specs.declared.marks.Marks.{Marks}
 use Rattle.cf_core.specs.declared.marks.StageMark.{StageMark}
+use Rattle.cf_core.proofs.Blocks.{no-work, work-class}
 use Rattle.cf_core.proofs.LiftedMarks.{ends}
 use Rattle.cf_core.proofs.Lifts.{at-bottom, at-top, climb-stage, rider}
 use Rattle.cf_core.proofs.Rides.{here-by, mark-none, owes-here}
@@ -159,3 +162,26 @@ has-climbed p new marks i j h free climbs within room is kept =
     })
 
 pub ruleset climbing = (climbed-marks)
+
+-- an instruction that can climb and has no work is spent
+pub spent-there : (p : Processor) (i : ℕ) → IsProcessor p.plan p.state → bar p.plan p.state (Climb i) ≡ None →
+    None ≡ on (passenger_at p.state.cells i) None work_of → rides p.state i is_spent ≡ true
+spent-there p i h free none =
+    let q = some_rider (passenger_at p.state.cells i) (climb-stage p i h free).2 in
+    let r = rider p i q.0 h free q.1 in
+    let idle = no-work q.0 (none ∙ ap (λ (o : Option Passenger). on o None work_of) q.1) in
+    rw (r.here, r.rides, idle, r.owes) refl
+
+-- one that has is of this class
+pub class-there : (p new : Processor) (i j : ℕ) (k : Class) → IsProcessor p.plan p.state → bar p.plan p.state (Climb i) ≡ None → i < j → j ≤ p.plan.stages →
+    new ≡ with_cells p (cells_lifted p.state.cells i j) → Some k ≡ on (passenger_at p.state.cells i) None work_of →
+    on (passenger_at new.state.cells j) None (λ q. Some (kind q)) ≡ Some k
+class-there p new i j k h free up within is some =
+    let stage = climb-stage p i h free in
+    let q = some_rider (passenger_at p.state.cells i) stage.2 in
+    let r = rider p i q.0 h free q.1 in
+    let e = ends p i j h stage.0 up within in
+    let top = at-top p.state.cells i j e.from e.to e.here e.there in
+    let same : e.from.passenger ≡ Some q.0 = sym (ap (λ (o : Option Cell). on o None (λ c. c.passenger)) e.here) ∙ q.1 in
+    let class = work-class q.0 k (some ∙ ap (λ (o : Option Passenger). on o None work_of) q.1) in
+    rw (is, top, same, class) refl

@@ -1,17 +1,20 @@
 -- An instruction that climbs on, one stage after another, as far as it can ("Counterflow Pipeline Processor Architecture",
 -- 1994: instructions advance when the stage above is free).
-use Rattle.std.specs.Prelude.{◌≡◌, ◌==◌, IsNone, IsSome, ◌||◌, ℕ, zero, suc, ◌+◌, ◌-◌, ◌<◌, ◌≤◌, Bool, true, false, None}
+use Rattle.std.specs.Prelude.{◌≡◌, ◌==◌, IsNone, IsSome, ◌||◌, ℕ, zero, suc, ◌+◌, ◌-◌, ◌<◌, ◌≤◌, Bool, true, false, Option, None, Some, if◌then◌else◌}
+use Rattle.rv_inst.specs.declared.classes.Class.{Class}
 use Rattle.cf_bind.specs.declared.cell.Cell.{Cell}
 use Rattle.cf_bind.specs.declared.moves.Move.TheVariants.{Climb}
 use Rattle.cf_bind.specs.declared.passenger.Passenger.{Passenger}
 use Rattle.cf_layout.specs.Layout.{Plan}
 use Rattle.cf_semantics.specs.moves.Bars.{bar, stops_at}
 use Rattle.cf_semantics.specs.state.Options.{is_some, on}
+use Rattle.cf_semantics.specs.state.Passengers.{kind}
 use Rattle.cf_semantics.specs.state.State.{State, cell_at}
 use Rattle.cf_stages.specs.Changes.{passenger_at}
 use Rattle.cf_core.specs.Marks.{marked, no_mark}
 use Rattle.cf_core.specs.Masks.{owes_at}
 use Rattle.cf_core.specs.Processors.{Processor, after_move}
+use Rattle.cf_core.specs.Riders.{is_idle}
 use Rattle.cf_core.specs.declared.marks.Marks.{Marks}
 
 -- the processor after the instruction of stage i has climbed by this many stages
@@ -22,6 +25,10 @@ climbed p i (suc n) = after_move (climbed p i n) (Climb (i + n))
 -- nothing bars its next Climb after this many
 abbrev pub climbs_on : Processor → ℕ → ℕ → Type 0
 climbs_on p i n = bar p.plan (climbed p i n).state (Climb (i + n)) ≡ None
+
+-- the class of the instruction, if a unit or a siding has still something to do with it
+abbrev pub work_of : Passenger → Option Class
+work_of p = if is_idle p then None else Some (kind p)
 
 -- the stage has contents of which the test holds
 abbrev pub holds_at : State → ℕ → (Cell → Bool) → Bool

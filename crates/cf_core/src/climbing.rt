@@ -4,10 +4,11 @@ ghost use Rattle.std.specs.Prelude.{◌≡◌, ◌-◌, ◌<◌, ◌≤◌, IsNo
 ghost use Rattle.cf_bind.specs.declared.moves.Move.TheVariants as mv;
 ghost use Rattle.cf_layout.specs.Layout.{last_stage, siding_of};
 ghost use Rattle.cf_semantics.specs.moves.Bars.{bar as first_bar, stops_at};
+ghost use Rattle.cf_semantics.specs.state.Options.{on};
 ghost use Rattle.cf_semantics.specs.state.Passengers.{kind as kind_of_passenger};
 ghost use Rattle.cf_stages.specs.Changes.{cells_lifted, passenger_at};
 ghost use Rattle.cf_stages.specs.Words.{word_of};
-ghost use Rattle.cf_core.specs.Climbing.{ClimbsTo, IsFirstBlock, climbed, is_blocked_at};
+ghost use Rattle.cf_core.specs.Climbing.{ClimbsTo, IsFirstBlock, climbed, is_blocked_at, work_of};
 ghost use Rattle.cf_core.specs.Places.{with_cells};
 ghost use Rattle.cf_core.specs.Processors.{IsProcessor};
 ghost use Rattle.cf_core.specs.Stations.{AreSidingStages};
@@ -19,6 +20,7 @@ use crate::stations::SidingStages;
 use cf_bind::Passenger;
 use cf_passengers::kind;
 use cf_stages::with_bit;
+use rv_inst::Class;
 
 impl Processor {
     /// The stage at which the instruction must not climb on, because its siding recovers or launches there: bit i - 1 for stage i.
@@ -49,51 +51,84 @@ impl Processor {
         with_bit(0, last, is_undone(passenger) && !passenger.launched)
     }
 
-    /// The stages at which the instruction must not climb on, by what it has still to do: bit i - 1 for stage i.
+    /// The class of the instruction of the stage, if a unit or a siding has still something to do with it.
     #[inline(always)]
-    #[tactic(auto, using(crate::proofs::Blocks::idling, crate::proofs::Tabled::sites, crate::proofs::Tabled::fields))]
-    fn stops_of(&self, passenger: &Passenger) -> u32
+    fn work_at(&self, i: u32) -> Option<Class>
+        requires above { 0 < i }
+        requires within { i ≤ self.now.plan.stages }
+        requires facts { IsProcessor self.now.plan self.now.state }
+        ensures { result ≡ on (passenger_at self.now.state.cells i) None work_of }
+    {
+        self.know_stages();
+        let Some(passenger) = self.stages.passenger(i) else {
+            return None;
+        };
+        if is_idle(passenger) {
+            None
+        } else {
+            Some(kind(passenger))
+        }
+    }
+
+    /// The stages at which an instruction of this class must not climb on, by what it has still to do: bit i - 1 for stage i.
+    #[inline(always)]
+    #[tactic(auto, using(crate::proofs::Tabled::sites, crate::proofs::Tabled::fields))]
+    fn class_stops(&self, passenger: &Passenger, class: Class) -> u32
+        requires { class ≡ kind_of_passenger passenger.now }
         ensures { result ≡ word_of (stops_at self.now.plan passenger.now) self.now.plan.stages }
     {
-        if is_idle(passenger) {
-            return 0;
-        }
-        let station = self.station(kind(passenger));
+        let station = self.station(class);
         match station.siding {
             Some(site) => self.siding_stops(passenger, site),
             None => self.unit_stops(passenger, station.last),
         }
     }
 
+    /// The same, given whether it has still anything to do.
+    #[inline(always)]
+    #[tactic(auto, using(crate::proofs::Blocks::working))]
+    fn stops_of(&self, passenger: &Passenger, work: Option<Class>) -> u32
+        requires { work ≡ work_of passenger.now }
+        ensures { result ≡ word_of (stops_at self.now.plan passenger.now) self.now.plan.stages }
+    {
+        match work {
+            Some(class) => self.class_stops(passenger, class),
+            None => 0,
+        }
+    }
+
     /// The stages at which the instruction is blocked, were it there: bit i - 1 for stage i.
     #[inline(always)]
-    fn blocks(&self, passenger: &Passenger) -> u32
-        requires { IsProcessor self.now.plan self.now.state }
+    fn blocks(&self, passenger: &Passenger, work: Option<Class>) -> u32
+        requires facts { IsProcessor self.now.plan self.now.state }
+        requires work { work ≡ work_of passenger.now }
         ensures { result ≡ word_of (is_blocked_at self.now.plan self.now.state passenger.now) self.now.plan.stages }
     {
         self.know_stages();
         let below_another = self.stages.passengers() >> 1;
         let highest = with_bit(0, self.stages.count(), true);
-        self.stages.packets() | below_another | highest | self.stops_of(passenger)
+        self.stages.packets() | below_another | highest | self.stops_of(passenger, work)
     }
 
     /// The first stage above this one at which the instruction is blocked.
     #[inline(always)]
     #[tactic(auto, using(crate::proofs::Blocks::blocking))]
-    fn first_block(&self, passenger: &Passenger, i: u32) -> u32
+    fn first_block(&self, passenger: &Passenger, work: Option<Class>, i: u32) -> u32
         requires facts { IsProcessor self.now.plan self.now.state }
+        requires work { work ≡ work_of passenger.now }
         requires below { i < self.now.plan.stages }
         ensures { IsFirstBlock self.now.plan self.now.state passenger.now i result }
     {
         self.know_stages();
-        i + 1 + (self.blocks(passenger) >> i).trailing_zeros()
+        i + 1 + (self.blocks(passenger, work) >> i).trailing_zeros()
     }
 
     /// The stage that the instruction of stage i comes to if it climbs as far as it can.
     #[inline(always)]
-    fn reach(&self, i: u32) -> u32
+    fn reach(&self, i: u32, work: Option<Class>) -> u32
         requires facts { IsProcessor self.now.plan self.now.state }
         requires allowed { first_bar self.now.plan self.now.state (mv.Climb i) ≡ None }
+        requires work { work ≡ on (passenger_at self.now.state.cells i) None work_of }
         ensures above { 0 < i }
         ensures order { i < result }
         ensures within { result ≤ self.now.plan.stages }
@@ -103,7 +138,7 @@ impl Processor {
         ensures cells { climbed self.now i (result - i) ≡ with_cells self.now (cells_lifted self.now.state.cells i result) }
     {
         match self.stages.passenger(i) {
-            Some(passenger) => self.first_block(passenger, i),
+            Some(passenger) => self.first_block(passenger, work, i),
             None => unreachable!(),
         }
     }
@@ -111,9 +146,10 @@ impl Processor {
     /// Lets the instruction of the stage climb as far as it can, and answers the stage that it comes to.
     // Nothing is in the stages between, so that they are as they were once it has passed them.
     #[inline(always)]
-    fn climb_on(&mut self, i: u32) -> u32
+    fn climb_on(&mut self, i: u32, work: Option<Class>) -> u32
         requires facts { IsProcessor self.old.plan self.old.state }
         requires allowed { first_bar self.old.plan self.old.state (mv.Climb i) ≡ None }
+        requires work { work ≡ on (passenger_at self.old.state.cells i) None work_of }
         ensures above { 0 < i }
         ensures within { result ≤ self.old.plan.stages }
         ensures room { IsNone (passenger_at self.old.state.cells result) }
@@ -121,7 +157,7 @@ impl Processor {
         ensures cells { self.new ≡ with_cells self.old (cells_lifted self.old.state.cells i result) }
         ensures processor { self.new ≡ climbed self.old i (result - i) }
     {
-        let to = self.reach(i);
+        let to = self.reach(i, work);
         self.stages.lift(i, to);
         to
     }
@@ -135,12 +171,12 @@ impl Core {
         ensures climbs { ClimbsTo self.old i result }
         ensures processor { self.new ≡ climbed self.old i (result - i) }
     {
-        let spent = self.processor.is_spent_at(i);
-        let to = self.processor.climb_on(i);
-        if spent {
-            return to;
+        let work = self.processor.work_at(i);
+        let to = self.processor.climb_on(i, work);
+        match work {
+            Some(class) => self.processor.remark_climb(&mut self.marks, class, i, to),
+            None => return to,
         }
-        self.marks = self.processor.remarked_by_climb(self.marks, i, to);
         to
     }
 }

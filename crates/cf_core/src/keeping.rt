@@ -17,7 +17,7 @@ use cf_stages::has_bit;
 impl Processor {
     /// Whether an instruction is in the stage and has nothing left to do but to climb and to leave.
     #[inline(always)]
-    pub(crate) fn is_spent_at(&self, i: u32) -> bool
+    fn is_spent_at(&self, i: u32) -> bool
         requires above { 0 < i }
         requires within { i ≤ self.now.plan.stages }
         requires facts { IsProcessor self.now.plan self.now.state }

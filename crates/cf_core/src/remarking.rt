@@ -3,6 +3,7 @@
 ghost use Rattle.std.specs.Prelude.{◌≡◌, None, Some, false};
 ghost use Rattle.cf_bind.specs.declared.moves.Move.TheVariants as mv;
 ghost use Rattle.cf_layout.specs.Layout.{last_stage, siding_of, unit_at};
+ghost use Rattle.cf_semantics.specs.state.Options.{on};
 ghost use Rattle.cf_semantics.specs.state.Passengers.{kind as kind_of_passenger};
 ghost use Rattle.cf_stages.specs.Changes.{passenger_at};
 ghost use Rattle.cf_stages.specs.Words.{word_of};
@@ -17,103 +18,102 @@ use crate::processor::Processor;
 use crate::stations::{SidingStages, Station};
 use crate::touching::Touched;
 use cf_bind::Passenger;
-use cf_passengers::kind;
 use cf_stages::with_bit;
+use rv_inst::Class;
 
 impl Processor {
-    /// The marks after the instruction has climbed to stage j, where its operation can be neither launched nor recovered.
+    /// Brings the marks up to date after the instruction has climbed to stage j, where its operation can be neither launched
+    /// nor recovered.
     // In stage i it could at most be executed, since it did not stop there.
     #[inline(always)]
     #[tactic(auto, using(crate::proofs::ClimbMarks::climbing))]
-    fn with_climbed(
+    fn mark_climbed(
         &self,
-        marks: Marks,
+        marks: &mut Marks,
         passenger: &Passenger,
         units: u32,
         stops: bool,
         i: u32,
         j: u32,
-    ) -> Marks
-        requires climbed { HasClimbed self.now.plan self.now.state marks i j }
+    )
+        requires climbed { HasClimbed self.now.plan self.now.state marks.old i j }
         requires here { passenger_at self.now.state.cells j ≡ Some passenger.now }
         requires units { units ≡ word_of (unit_at self.now.plan (kind_of_passenger passenger.now)) self.now.plan.stages }
         requires stops { stops ≡ stops_there self.now.plan self.now.state j }
         requires launch { row_allows self.now.plan self.now.state (mv.Launch j) ≡ false }
         requires recover { row_allows self.now.plan self.now.state (mv.Recover j) ≡ false }
-        ensures { result ≡ remarked_by self.now.plan self.now.state marks (record { low = i; high = j }) }
+        ensures { marks.new ≡ remarked_by self.now.plan self.now.state marks.old (record { low = i; high = j }) }
     {
         self.know_stages();
         let left = with_bit(marks.execute, i, false);
-        Marks {
-            stops: with_bit(marks.stops, j, stops),
-            execute: with_bit(left, j, self.executes(passenger, units, j)),
-            ..marks
-        }
+        marks.stops = with_bit(marks.stops, j, stops);
+        marks.execute = with_bit(left, j, self.executes(passenger, units, j));
     }
 
     /// The same for an instruction of a class with this siding.
     #[inline(always)]
     #[tactic(auto, using(crate::proofs::ClimbMarks::unstopped))]
-    fn with_siding_climbed(
+    fn mark_siding_climbed(
         &self,
-        marks: Marks,
+        marks: &mut Marks,
         passenger: &Passenger,
         units: u32,
         site: SidingStages,
         i: u32,
         j: u32,
-    ) -> Marks
+    )
         requires facts { IsProcessor self.now.plan self.now.state }
-        requires climbed { HasClimbed self.now.plan self.now.state marks i j }
+        requires climbed { HasClimbed self.now.plan self.now.state marks.old i j }
         requires here { passenger_at self.now.state.cells j ≡ Some passenger.now }
         requires units { units ≡ word_of (unit_at self.now.plan (kind_of_passenger passenger.now)) self.now.plan.stages }
         requires site { AreSidingStages self.now.plan (kind_of_passenger passenger.now) site }
-        ensures { result ≡ remarked_by self.now.plan self.now.state marks (record { low = i; high = j }) }
+        ensures { marks.new ≡ remarked_by self.now.plan self.now.state marks.old (record { low = i; high = j }) }
     {
         if self.stops_at_siding(passenger, site, j) {
-            self.remarked(marks, Touched { low: i, high: j })
+            *marks = self.remarked(*marks, Touched { low: i, high: j });
         } else {
-            self.with_climbed(marks, passenger, units, false, i, j)
+            self.mark_climbed(marks, passenger, units, false, i, j);
         }
     }
 
     /// The same for an instruction of a class without a siding.
     #[inline(always)]
     #[tactic(auto, using(crate::proofs::Rides::units, crate::proofs::Tabled::fields))]
-    fn with_units_climbed(
+    fn mark_units_climbed(
         &self,
-        marks: Marks,
+        marks: &mut Marks,
         passenger: &Passenger,
         station: &Station,
         i: u32,
         j: u32,
-    ) -> Marks
-        requires climbed { HasClimbed self.now.plan self.now.state marks i j }
+    )
+        requires climbed { HasClimbed self.now.plan self.now.state marks.old i j }
         requires here { passenger_at self.now.state.cells j ≡ Some passenger.now }
         requires station { station.now ≡ station_of self.now.plan (kind_of_passenger passenger.now) }
         requires units { siding_of self.now.plan (kind_of_passenger passenger.now) ≡ None }
-        ensures { result ≡ remarked_by self.now.plan self.now.state marks (record { low = i; high = j }) }
+        ensures { marks.new ≡ remarked_by self.now.plan self.now.state marks.old (record { low = i; high = j }) }
     {
         let stops = self.stops_at_units(passenger, station.last, j);
-        self.with_climbed(marks, passenger, station.units, stops, i, j)
+        self.mark_climbed(marks, passenger, station.units, stops, i, j);
     }
 
-    /// The marks after the instruction that is now in stage j, which owes nothing, has climbed there from stage i.
+    /// Brings the marks up to date after an instruction of this class, which owes nothing, has climbed from stage i to stage j.
     #[inline(always)]
     #[tactic(auto, using(crate::proofs::Tabled::sites, crate::proofs::Tabled::fields))]
-    pub(crate) fn remarked_by_climb(&self, marks: Marks, i: u32, j: u32) -> Marks
+    pub(crate) fn remark_climb(&self, marks: &mut Marks, class: Class, i: u32, j: u32)
         requires facts { IsProcessor self.now.plan self.now.state }
-        requires climbed { HasClimbed self.now.plan self.now.state marks i j }
-        ensures { result ≡ remarked_by self.now.plan self.now.state marks (record { low = i; high = j }) }
+        requires climbed { HasClimbed self.now.plan self.now.state marks.old i j }
+        requires class { on (passenger_at self.now.state.cells j) None (λ p. Some (kind_of_passenger p)) ≡ Some class }
+        ensures { marks.new ≡ remarked_by self.now.plan self.now.state marks.old (record { low = i; high = j }) }
     {
         self.know_stages();
         let Some(passenger) = self.stages.passenger(j) else {
             unreachable!();
         };
-        let station = self.station(kind(passenger));
+        let station = self.station(class);
         match station.siding {
-            Some(site) => self.with_siding_climbed(marks, passenger, station.units, site, i, j),
-            None => self.with_units_climbed(marks, passenger, station, i, j),
+            Some(site) => self.mark_siding_climbed(marks, passenger, station.units, site, i, j),
+            None => self.mark_units_climbed(marks, passenger, station, i, j),
         }
     }
 }
