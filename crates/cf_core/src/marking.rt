@@ -63,22 +63,24 @@ impl Processor {
         }
     }
 
-    /// The marks of the stage that has this instruction.
-    // It stays a call: with it a move would be too large to become a part of the loop of a run.
+    /// The marks with those of the stage that has this instruction brought up to date.
+    // It stays a call: with it a move would be too large to become a part of the loop of a run. It is given the words, since
+    // it knows of two of them that their bit is not set where the class has no siding.
     #[inline(never)]
     #[tactic(auto, using(crate::proofs::Tabled::sites))]
-    pub(crate) fn mark_of(&self, passenger: &Passenger, i: u32) -> StageMark
+    fn with_rider(&self, marks: Marks, passenger: &Passenger, i: u32) -> Marks
         requires above { 0 < i }
         requires within { i ≤ self.now.plan.stages }
         requires facts { IsProcessor self.now.plan self.now.state }
         requires here { passenger_at self.now.state.cells i ≡ Some passenger.now }
-        ensures { result ≡ mark_at self.now.plan self.now.state i }
+        ensures { result ≡ marked marks i (mark_at self.now.plan self.now.state i) }
     {
+        self.know_stages();
         let class = kind(passenger);
         let station = self.station(class);
         match station.siding {
-            Some(site) => self.mark_at_siding(passenger, class, site, i),
-            None => self.mark_at_units(passenger, station, i),
+            Some(site) => marks.with(i, self.mark_at_siding(passenger, class, site, i)),
+            None => marks.with(i, self.mark_at_units(passenger, station, i)),
         }
     }
 
@@ -108,7 +110,7 @@ impl Processor {
         self.know_stages();
         match self.stages.passenger(i) {
             Some(passenger) if is_idle(passenger) => marks.with(i, self.mark_idle(passenger, i)),
-            Some(passenger) => marks.with(i, self.mark_of(passenger, i)),
+            Some(passenger) => self.with_rider(marks, passenger, i),
             None => marks.with(i, StageMark::of_none()),
         }
     }
