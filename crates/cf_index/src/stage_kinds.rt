@@ -77,19 +77,17 @@ impl StageKind for MeetKind {
 
     #[inline(always)]
     fn left(core: &Core, last: Rank) -> u32 {
-        let masks = core.masks();
+        let masks = core.open_masks();
         last.after(MEET, meets(core, &masks, true))
     }
 
     #[inline(always)]
-    fn next(core: &Core, last: Rank, left: u32) -> Option<u32> {
-        let (_core, _last) = (core, last);
+    fn next(_core: &Core, _last: Rank, left: u32) -> Option<u32> {
         lowest_stage(left)
     }
 
     #[inline(always)]
-    fn left_after(core: &Core, i: u32, left: u32) -> u32 {
-        let (_core, _stage) = (core, i);
+    fn left_after(_core: &Core, _stage: u32, left: u32) -> u32 {
         without_lowest(left)
     }
 }
@@ -109,19 +107,17 @@ impl StageKind for ExecuteKind {
 
     #[inline(always)]
     fn left(core: &Core, last: Rank) -> u32 {
-        let masks = core.masks();
+        let masks = core.open_masks();
         last.after(EXECUTE, executes(core, &masks))
     }
 
     #[inline(always)]
-    fn next(core: &Core, last: Rank, left: u32) -> Option<u32> {
-        let (_core, _last) = (core, last);
+    fn next(_core: &Core, _last: Rank, left: u32) -> Option<u32> {
         lowest_stage(left)
     }
 
     #[inline(always)]
-    fn left_after(core: &Core, i: u32, left: u32) -> u32 {
-        let (_core, _stage) = (core, i);
+    fn left_after(_core: &Core, _stage: u32, left: u32) -> u32 {
         without_lowest(left)
     }
 }
@@ -141,19 +137,17 @@ impl StageKind for SendKind {
 
     #[inline(always)]
     fn left(core: &Core, last: Rank) -> u32 {
-        let masks = core.masks();
+        let masks = core.open_masks();
         last.after(SEND, sends(core, &masks, true))
     }
 
     #[inline(always)]
-    fn next(core: &Core, last: Rank, left: u32) -> Option<u32> {
-        let (_core, _last) = (core, last);
+    fn next(_core: &Core, _last: Rank, left: u32) -> Option<u32> {
         lowest_stage(left)
     }
 
     #[inline(always)]
-    fn left_after(core: &Core, i: u32, left: u32) -> u32 {
-        let (_core, _stage) = (core, i);
+    fn left_after(_core: &Core, _stage: u32, left: u32) -> u32 {
         without_lowest(left)
     }
 }
@@ -173,22 +167,20 @@ impl StageKind for FallKind {
 
     #[inline(always)]
     fn left(core: &Core, last: Rank) -> u32 {
-        let masks = core.masks();
+        let masks = core.open_masks();
         falls_after(core, &masks, last, true)
     }
 
     #[inline(always)]
-    fn next(core: &Core, last: Rank, left: u32) -> Option<u32> {
-        let (_core, _last) = (core, last);
+    fn next(_core: &Core, _last: Rank, left: u32) -> Option<u32> {
         lowest_stage(left)
     }
 
     // The stage that the result has left has none now, so the result of the stage above can fall to it.
     #[inline(always)]
-    fn left_after(core: &Core, i: u32, left: u32) -> u32 {
-        let _stage = i;
+    fn left_after(core: &Core, _stage: u32, left: u32) -> u32 {
         know_stages(core);
-        let masks = core.masks();
+        let masks = core.open_masks();
         with_next(left, resting(&masks))
     }
 }
@@ -208,20 +200,18 @@ impl StageKind for LaunchKind {
 
     #[inline(always)]
     fn left(core: &Core, last: Rank) -> u32 {
-        let masks = core.masks();
+        let masks = core.open_masks();
         last.after(LAUNCH, launches(core, &masks))
     }
 
     #[inline(always)]
-    fn next(core: &Core, last: Rank, left: u32) -> Option<u32> {
-        let (_core, _last) = (core, last);
+    fn next(_core: &Core, _last: Rank, left: u32) -> Option<u32> {
         lowest_stage(left)
     }
 
     // The siding that the operation has entered may be that of another stage too.
     #[inline(always)]
-    fn left_after(core: &Core, i: u32, left: u32) -> u32 {
-        let _left = left;
+    fn left_after(core: &Core, i: u32, _left: u32) -> u32 {
         Self::left(core, Rank::of(Self::at(i)))
     }
 }
@@ -241,21 +231,19 @@ impl StageKind for RecoverKind {
 
     #[inline(always)]
     fn left(core: &Core, last: Rank) -> u32 {
-        let masks = core.masks();
+        let masks = core.open_masks();
         last.after(RECOVER, masks.recover)
     }
 
     #[inline(always)]
-    fn next(core: &Core, last: Rank, left: u32) -> Option<u32> {
-        let _last = last;
+    fn next(core: &Core, _last: Rank, left: u32) -> Option<u32> {
         know_stages(core);
         lowest_stage(left)
     }
 
     // The siding that the operation has left may be that of another stage too.
     #[inline(always)]
-    fn left_after(core: &Core, i: u32, left: u32) -> u32 {
-        let _left = left;
+    fn left_after(core: &Core, i: u32, _left: u32) -> u32 {
         Self::left(core, Rank::of(Self::at(i)))
     }
 }
@@ -275,20 +263,18 @@ impl StageKind for ClimbKind {
 
     #[inline(always)]
     fn left(core: &Core, last: Rank) -> u32 {
-        let masks = core.masks();
+        let masks = core.open_masks();
         climbs_after(core, &masks, last, true)
     }
 
     #[inline(always)]
-    fn next(core: &Core, last: Rank, left: u32) -> Option<u32> {
-        let (_core, _last) = (core, last);
+    fn next(_core: &Core, _last: Rank, left: u32) -> Option<u32> {
         lowest_stage(left)
     }
 
     // After one Climb the instruction may climb on, and the one below may follow it.
     #[inline(always)]
-    fn left_after(core: &Core, i: u32, left: u32) -> u32 {
-        let _left = left;
+    fn left_after(core: &Core, i: u32, _left: u32) -> u32 {
         Self::left(core, Rank::of(Self::at(i)))
     }
 }

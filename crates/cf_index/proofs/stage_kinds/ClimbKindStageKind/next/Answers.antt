@@ -8,14 +8,14 @@ use Rattle.cf_index.proofs.stage_kinds.ClimbKindStageKind.next.Goals as goal
 pub returns-clause-here : goal.returns-clause-here
 unfolding passing_of
 returns-clause-here c =
-    let plan = c.args.core.now.plan in
-    let s = c.args.core.now.state in
-    first_here plan s c.args.last Climb c.args.left (from_climb plan s) (from_fall plan s) c.lowest_stage.result (after_climbs plan s) c.requires
+    let plan = c.args._core.now.plan in
+    let s = c.args._core.now.state in
+    first_here plan s c.args._last Climb c.args.left (from_climb plan s) (from_fall plan s) c.lowest_stage.result (after_climbs plan s) c.requires
     c.lowest_stage.ensures.lowest c.lowest_stage.ensures.first
 
 pub returns-clause-gone : goal.returns-clause-gone
 unfolding passing_of
 returns-clause-gone c = λ none.
-    let plan = c.args.core.now.plan in
-    let s = c.args.core.now.state in
-    left_gone plan s c.args.last Climb c.args.left (from_climb plan s) (from_fall plan s) (after_climbs plan s) c.requires (c.lowest_stage.ensures.gone none)
+    let plan = c.args._core.now.plan in
+    let s = c.args._core.now.state in
+    left_gone plan s c.args._last Climb c.args.left (from_climb plan s) (from_fall plan s) (after_climbs plan s) c.requires (c.lowest_stage.ensures.gone none)

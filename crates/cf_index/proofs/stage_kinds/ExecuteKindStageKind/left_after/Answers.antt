@@ -4,5 +4,5 @@ use Rattle.cf_index.proofs.stage_kinds.ExecuteKindStageKind.left_after.Goals as 
 
 pub returns : goal.returns
 returns c = λ old r processor made.
-    left_alone c.args.core.now.plan old c.args.core.now.state r Execute c.args.left c.without_lowest.result c.args.i executes_by executes_keep processor made
-    (λ k. c.without_lowest.ensures c.args.i k made.lowest)
+    left_alone c.args._core.now.plan old c.args._core.now.state r Execute c.args.left c.without_lowest.result c.args._stage executes_by executes_keep
+    processor made (λ k. c.without_lowest.ensures c.args._stage k made.lowest)

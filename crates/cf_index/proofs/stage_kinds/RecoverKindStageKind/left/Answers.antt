@@ -10,4 +10,4 @@ use Rattle.cf_index.proofs.stage_kinds.RecoverKindStageKind.left.Goals as goal
 
 pub returns : goal.returns
 unfolding AreLeft masks_of
-returns c = λ j. c.after.ensures j ∙ ap (λ (m : Masks). has_bit m.recover j && is_past c.args.last (Recover (j + 1))) c.masks-masks.ensures
+returns c = λ j. c.after.ensures j ∙ ap (λ (m : Masks). has_bit m.recover j && is_past c.args.last (Recover (j + 1))) c.open_masks-masks.ensures

@@ -11,7 +11,7 @@ unfolding masks_of
 returns-clause-here c =
     let plan = c.args.core.now.plan in
     let s = c.args.core.now.state in
-    first_here plan s c.args.last Recover c.args.left (from_recover plan s) (from_leave plan s) c.lowest_stage.result
+    first_here plan s c.args._last Recover c.args.left (from_recover plan s) (from_leave plan s) c.lowest_stage.result
     (after_recovers plan s (masks_of plan s) c.know_stages.ensures.few refl) c.requires c.lowest_stage.ensures.lowest c.lowest_stage.ensures.first
 
 pub returns-clause-gone : goal.returns-clause-gone
@@ -19,5 +19,5 @@ unfolding masks_of
 returns-clause-gone c = λ none.
     let plan = c.args.core.now.plan in
     let s = c.args.core.now.state in
-    left_gone plan s c.args.last Recover c.args.left (from_recover plan s) (from_leave plan s)
+    left_gone plan s c.args._last Recover c.args.left (from_recover plan s) (from_leave plan s)
     (after_recovers plan s (masks_of plan s) c.know_stages.ensures.few refl) c.requires (c.lowest_stage.ensures.gone none)
