@@ -463,6 +463,12 @@ pub picks_same : (rule : GuessRule) (held : Bool) (plan : Plan) (s : State) (las
     IsPickedFrom rule held plan s last r xs → IsPickedFrom rule held plan s last r ys
 picks_same rule held plan s last r xs ys is picked = subst (IsPickedFrom rule held plan s last r) is picked
 
+-- or the pick and its rank are
+pub picks_there : (rule : GuessRule) (held : Bool) (plan : Plan) (s : State) (m last : Move) (r : Rank) (xs : List Move) → last ≡ m → r ≡ rank_of m →
+    IsPickedFrom rule held plan s (Some m) (rank_of m) xs → IsPickedFrom rule held plan s (Some last) r xs
+picks_there rule held plan s m last r xs is at picked =
+    subst (λ (n : Move). IsPickedFrom rule held plan s (Some n) r xs) (sym is) (subst (λ (q : Rank). IsPickedFrom rule held plan s (Some m) q xs) (sym at) picked)
+
 -- and if these have no move, only an Issue can come after the last pick
 pub picks_last : (rule : GuessRule) (held : Bool) (plan : Plan) (s : State) (last : Option Move) (r : Rank) (xs : List Move) →
     IsPickedFrom rule held plan s last r xs → find (is_past r) xs ≡ None → IsLast plan s last
@@ -492,7 +498,7 @@ left-on old new kind r place w after i made at facts left lowest so =
     let state = ap (λ (p : Processor). p.state) made in
     subst (λ (q : Rank). AreLeft new.plan new.state q kind after) (sym at)
     (so old.state r (subst (λ (l : Plan). IsProcessor l old.state) (sym plan) facts) (record {
-        left = subst (λ (l : Plan). AreLeft l old.state r kind w) (sym plan) left;
-        lowest = lowest;
-        moved_is = subst (λ (l : Plan). new.state ≡ moved l old.state (kind i)) (sym plan) state;
+      left = subst (λ (l : Plan). AreLeft l old.state r kind w) (sym plan) left;
+      lowest = lowest;
+      moved_is = subst (λ (l : Plan). new.state ≡ moved l old.state (kind i)) (sym plan) state;
     }))

@@ -28,6 +28,18 @@ pub(crate) struct SweepPlace {
     pub(crate) rank: Rank,
 }
 
+/// Where the sweep is after this pick.
+#[inline(always)]
+fn place_after(mv: Move) -> SweepPlace
+    ensures last { result.last ≡ mv }
+    ensures rank { result.rank ≡ rank_of mv }
+{
+    SweepPlace {
+        last: mv,
+        rank: Rank::of(mv),
+    }
+}
+
 /// Makes and counts the rule's pick, which is not Serve, and records it in the pace.
 #[inline(always)]
 pub(crate) fn make_picked(
@@ -53,14 +65,7 @@ pub(crate) fn make_picked(
 
 /// Makes and counts the rule's pick, by which nothing enters at the bottom or leaves: the pace is unchanged by it.
 #[inline(always)]
-fn make_within(
-    core: &mut Core,
-    last: Move,
-    mv: Move,
-    pace: &Pace,
-    limit: u64,
-    tally: &mut Tally,
-)
+fn make_within(core: &mut Core, last: Move, mv: Move, pace: &Pace, limit: u64, tally: &mut Tally)
     requires after { 1 ≤ kind_place mv }
     requires before { kind_place mv ≤ 10 }
     requires ready { IsSweeping limit (rule_at core.old (Some last) pace.now tally.old) }
@@ -99,10 +104,7 @@ fn make_at_stage<T: StageKind>(
 {
     let mv = T::at(stage);
     make_within(core, last, mv, pace, limit, tally);
-    SweepPlace {
-        last: mv,
-        rank: Rank::of(mv),
-    }
+    place_after(mv)
 }
 
 /// Makes the moves of the kind that the rule picks one after another.
@@ -154,10 +156,7 @@ fn make_at<T: SweptKind>(
 {
     let mv = T::at(stage);
     make_picked(core, last, mv, pace, limit, tally);
-    SweepPlace {
-        last: mv,
-        rank: Rank::of(mv),
-    }
+    place_after(mv)
 }
 
 /// Makes the move of a kind that has only one, if the rule picks it. After a Leave the run may be over.

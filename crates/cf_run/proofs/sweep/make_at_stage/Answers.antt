@@ -1,8 +1,5 @@
-use Rattle.std.proofs.Common.{Some, sym, subst}
 use Rattle.cf_semantics.specs.moves.Holding.{is_held}
-use Rattle.cf_index.specs.PickedFrom.{IsPickedFrom}
-use Rattle.cf_index.specs.declared.rank.Rank.{Rank}
-use Rattle.cf_run.proofs.Turning.{few_after}
+use Rattle.cf_run.proofs.Turning.{few_after, picks_there}
 use Rattle.cf_run.proofs.sweep.make_at_stage.Goals as goal
 
 pub make_within-requires-clause-picked : goal.make_within-requires-clause-picked
@@ -13,5 +10,5 @@ returns-clause-picked g c =
     let pace = c.args.pace.now in
     let plan = c.make_within.new.core.plan in
     let s = c.make_within.new.core.state in
-    subst (λ (r : Rank). IsPickedFrom pace.rule (is_held plan pace.count) plan s (Some c.at-mv.result) r (g.T.StageKind.from plan s)) (sym c.of.ensures)
+    picks_there pace.rule (is_held plan pace.count) plan s _ _ _ _ c.place_after.ensures.last c.place_after.ensures.rank
     (c.at-mv.ensures.picked pace.rule (is_held plan pace.count) plan s (few_after _ _ _ c.requires.ready c.make_within.ensures.swept))
