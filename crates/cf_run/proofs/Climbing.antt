@@ -18,10 +18,12 @@ use Rattle.cf_semantics.specs.state.State.{State, cell_at, put_cell}
 use Rattle.theory_refinement.proofs.moves.Climb.{climb_ready, next_climb}
 use Rattle.theory_refinement.proofs.moves.Rows.{bar_row, put_size}
 use Rattle.cf_core.specs.Climbing.{ClimbsTo, climbed, climbs_on}
-use Rattle.cf_core.specs.Processors.{Processor, after_move}
+use Rattle.cf_core.specs.Processors.{IsProcessor, Processor, after_move}
 use Rattle.cf_index.specs.Allowed.{all_passing, is_allowed}
+use Rattle.cf_index.specs.Left.{AreLeft}
 use Rattle.cf_index.specs.PickedFrom.{from_climb, outward_on}
 use Rattle.cf_index.specs.Ranks.{is_past, rank_of}
+use Rattle.cf_index.specs.declared.rank.Rank.{Rank}
 use Rattle.cf_index.proofs.AllowedWords.{climb-on}
 use Rattle.cf_index.proofs.FirstsAfter.{found_first}
 use Rattle.cf_index.proofs.PickedFrom.{climbed_on}
@@ -187,3 +189,20 @@ climbs-on limit p new last pace tally i j ready picked size to is =
     last_is : (n : ℕ) → j - i ≡ n → i < j → last_climb last i n ≡ Some (Climb (j - 1))
     last_is zero e higher = absurd (omega (arith, e, higher))
     last_is (suc n) e higher = let k : i + n ≡ j - 1 = omega (arith, e, higher) in ap (λ (m : ℕ). Some (Climb m)) k
+
+climbed_plan : (p : Processor) (i n : ℕ) → (climbed p i n).plan ≡ p.plan
+unfolding climbed
+climbed_plan p i zero = refl
+climbed_plan p i (suc n) = climbed_plan p i n
+
+-- the word of the stages from which a Climb is left after it
+pub climbs-left : (old new : Processor) (r place : Rank) (w after i j : ℕ) → new ≡ climbed old i (j - i) → place ≡ rank_of (Climb (j - 1)) →
+    IsProcessor old.plan old.state → AreLeft old.plan old.state r Climb w → ClimbsTo old i j →
+    ((p : Processor) (j : ℕ) (r : Rank) → AreLeft p.plan p.state r Climb w → IsProcessor p.plan p.state → ClimbsTo p i j →
+    AreLeft p.plan (climbed p i (j - i)).state (rank_of (Climb (j - 1))) Climb after) →
+    AreLeft new.plan new.state place Climb after
+climbs-left old new r place w after i j made at facts left to so =
+    let there = subst (λ (l : Plan). AreLeft l (climbed old i (j - i)).state (rank_of (Climb (j - 1))) Climb after) (sym (climbed_plan old i (j - i)))
+    (so old j r left facts to) in
+    subst (λ (q : Rank). AreLeft new.plan new.state q Climb after) (sym at)
+    (subst (λ (p : Processor). AreLeft p.plan p.state (rank_of (Climb (j - 1))) Climb after) (sym made) there)

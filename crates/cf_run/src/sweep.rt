@@ -2,12 +2,14 @@
 //! neither stream, and nothing of it is shown.
 #![tactic(auto, using(crate::proofs::Turning::goes_on_so, crate::proofs::Turning::no_turns, crate::proofs::Turning::sweeps_on))]
 
-ghost use Rattle.std.specs.Prelude.{◌≡◌, ◌≢◌, ℕ, ◌+◌, ◌≤◌, Some};
+ghost use Rattle.std.specs.Prelude.{◌≡◌, ◌≢◌, ℕ, ◌+◌, ◌-◌, ◌<◌, ◌≤◌, Some};
 ghost use Rattle.cf_layout.specs.Layout.{Plan};
 ghost use Rattle.cf_semantics.specs.state.State.{State};
+ghost use Rattle.cf_bind.specs.declared.moves.Move.TheVariants as mv;
+ghost use Rattle.cf_core.specs.Climbing.{ClimbsTo, climbed};
 ghost use Rattle.cf_core.specs.Processors.{IsProcessor, after_move};
 ghost use Rattle.cf_index.specs.Order.{kind_place, leave_place};
-ghost use Rattle.cf_index.specs.PickedFrom.{from_emit, outward_on};
+ghost use Rattle.cf_index.specs.PickedFrom.{from_climb, from_emit, from_fall, outward_on};
 ghost use Rattle.cf_index.specs.Ranks.{first_rank, rank_of};
 ghost use Rattle.cf_run.specs.Sweeps.{IsSweeping, PicksFrom, PicksNext, SweepsTo, rule_at, silent};
 
@@ -16,7 +18,7 @@ use cf_bind::Move;
 use cf_core::Core;
 use cf_index::{
     ClimbKind, EmitKind, ExecuteKind, FallKind, LaunchKind, MeetKind, Rank, SendKind, StageKind,
-    SweptKind,
+    SweptKind, climbs_left,
 };
 use cf_report::Tally;
 use cf_sched::Pace;
@@ -65,7 +67,14 @@ pub(crate) fn make_picked(
 
 /// Makes and counts the rule's pick, by which nothing enters at the bottom or leaves: the pace is unchanged by it.
 #[inline(always)]
-fn make_within(core: &mut Core, last: Move, mv: Move, pace: &Pace, limit: u64, tally: &mut Tally)
+pub(crate) fn make_within(
+    core: &mut Core,
+    last: Move,
+    mv: Move,
+    pace: &Pace,
+    limit: u64,
+    tally: &mut Tally,
+)
     requires after { 1 ≤ kind_place mv }
     requires before { kind_place mv ≤ 10 }
     requires ready { IsSweeping limit (rule_at core.old (Some last) pace.now tally.old) }
@@ -130,6 +139,63 @@ pub(crate) fn sweep_kind<T: StageKind>(
             Some(stage) => {
                 place = make_at_stage::<T>(core, place.last, stage, pace, limit, tally);
                 left = T::left_after(core, stage, left);
+            }
+            None => return place,
+        }
+    }
+}
+
+/// Lets the instruction of the stage, whose Climb the rule picks, climb on as far as it can, and answers the stage that it
+/// comes to. Each of its Climbs is the rule's next pick.
+#[inline(always)]
+fn make_climbs(
+    core: &mut Core,
+    last: Move,
+    stage: u32,
+    pace: &Pace,
+    limit: u64,
+    tally: &mut Tally,
+) -> u32
+    requires ready { IsSweeping limit (rule_at core.old (Some last) pace.now tally.old) }
+    requires picked { PicksNext pace.now core.old (Some last) (mv.Climb stage) }
+    ensures facts { IsProcessor core.old.plan core.old.state }
+    ensures climbs { ClimbsTo core.old stage result }
+    ensures made { core.new ≡ climbed core.old stage (result - stage) }
+    ensures swept { SweepsTo limit silent (rule_at core.old (Some last) pace.now tally.old)
+        (rule_at core.new (Some (mv.Climb (result - 1))) pace.now tally.new) }
+    ensures ready { IsSweeping limit (rule_at core.new (Some (mv.Climb (result - 1))) pace.now tally.new) }
+    ensures counted { tally.old.moves < tally.new.moves }
+{
+    let (_last, _pace, _layout) = (last, pace, core.layout());
+    let top = core.climb_on(stage);
+    tally.moves += (top - stage) as u64;
+    top
+}
+
+/// Makes the Climbs that the rule picks one after another.
+#[inline(always)]
+fn sweep_climbs(
+    core: &mut Core,
+    from: SweepPlace,
+    pace: &Pace,
+    limit: u64,
+    tally: &mut Tally,
+) -> SweepPlace
+    requires ready { IsSweeping limit (rule_at core.old (Some from.last) pace.now tally.old) }
+    requires picked { PicksFrom pace.now core.old (Some from.last) from.rank from_climb }
+    ensures swept { SweepsTo limit silent (rule_at core.old (Some from.last) pace.now tally.old)
+        (rule_at core.new (Some result.last) pace.now tally.new) }
+    ensures ready { IsSweeping limit (rule_at core.new (Some result.last) pace.now tally.new) }
+    ensures picked { PicksFrom pace.now core.new (Some result.last) result.rank from_fall }
+{
+    let mut place = from;
+    let mut left = ClimbKind::left(core, from.rank);
+    loop {
+        match <ClimbKind as StageKind>::next(core, place.rank, left) {
+            Some(stage) => {
+                let top = make_climbs(core, place.last, stage, pace, limit, tally);
+                place = place_after(Move::Climb(top - 1));
+                left = climbs_left(stage, left);
             }
             None => return place,
         }
@@ -206,7 +272,7 @@ pub(crate) fn sweep_stages(
         rank: Rank::first(),
     };
     let emitted = sweep_once::<EmitKind>(core, from, pace, limit, tally);
-    let climbed = sweep_kind::<ClimbKind>(core, emitted, pace, limit, tally);
+    let climbed = sweep_climbs(core, emitted, pace, limit, tally);
     let fallen = sweep_kind::<FallKind>(core, climbed, pace, limit, tally);
     let met = sweep_kind::<MeetKind>(core, fallen, pace, limit, tally);
     let executed = sweep_kind::<ExecuteKind>(core, met, pace, limit, tally);

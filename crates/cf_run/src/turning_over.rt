@@ -9,7 +9,7 @@ ghost use Rattle.cf_index.specs.Ranks.{first_rank};
 ghost use Rattle.cf_run.specs.Sweeps.{IsSweeping, PicksFrom, PicksNext, SweepsTo, rule_at, silent};
 
 use crate::finished::over;
-use crate::sweep::{SweepPlace, make_picked, sweep_kind, sweep_once, sweep_stages};
+use crate::sweep::{SweepPlace, make_picked, make_within, sweep_kind, sweep_once, sweep_stages};
 use cf_bind::Move;
 use cf_core::Core;
 use cf_index::{AccessKind, Candidates, ExitKind, LeaveKind, Rank, RecoverKind};
@@ -29,16 +29,16 @@ pub(crate) struct PartEnd {
 fn take_slide(
     core: &mut Core,
     from: SweepPlace,
-    pace: &mut Pace,
+    pace: &Pace,
     limit: u64,
     tally: &mut Tally,
 ) -> PartEnd
-    requires ready { IsSweeping limit (rule_at core.old (Some from.last) pace.old tally.old) }
-    requires picked { PicksFrom pace.old core.old (Some from.last) from.rank outward_on }
-    ensures swept { SweepsTo limit silent (rule_at core.old (Some from.last) pace.old tally.old)
-        (rule_at core.new (Some result.last) pace.new tally.new) }
-    ensures ready { IsSweeping limit (rule_at core.new (Some result.last) pace.new tally.new) }
-    ensures picked { IfSome result.rank (λ rank. PicksFrom pace.new core.new (Some result.last) rank from_access) }
+    requires ready { IsSweeping limit (rule_at core.old (Some from.last) pace.now tally.old) }
+    requires picked { PicksFrom pace.now core.old (Some from.last) from.rank outward_on }
+    ensures swept { SweepsTo limit silent (rule_at core.old (Some from.last) pace.now tally.old)
+        (rule_at core.new (Some result.last) pace.now tally.new) }
+    ensures ready { IsSweeping limit (rule_at core.new (Some result.last) pace.now tally.new) }
+    ensures picked { IfSome result.rank (λ rank. PicksFrom pace.now core.new (Some result.last) rank from_access) }
 {
     let Some(mv) = Candidates::next_slide(core, from.rank) else {
         return PartEnd {
@@ -46,7 +46,7 @@ fn take_slide(
             rank: Some(from.rank),
         };
     };
-    make_picked(core, from.last, mv, pace, limit, tally);
+    make_within(core, from.last, mv, pace, limit, tally);
     let rank = if Candidates::slides_after(core, mv) {
         None
     } else {
