@@ -1,4 +1,4 @@
-//! The kinds of moves by which something leaves: Access, Recover, Leave and Exit.
+//! The kinds of moves by which something leaves and that have no stage: Access, Leave and Exit.
 
 ghost use Rattle.std.specs.Prelude.{◌≡◌, ◌≢◌, Bool, IfSome, None, Some, false, find};
 ghost use Rattle.run_options.specs.declared.guess_rule.GuessRule.{GuessRule};
@@ -8,21 +8,17 @@ ghost use Rattle.cf_index.specs.Ranks.{first_rank, is_past};
 ghost use Rattle.cf_index.specs.PickedFrom.{IsPickedFrom, from_access, from_exit, from_leave, from_recover, from_serve, outward_on};
 
 use crate::after::passed_slides;
-use crate::bits::{count, lowest};
+use crate::bits::count;
 use crate::candidates::Candidates;
 use crate::fill::slides;
 use crate::outward::next_slide;
-use crate::rank::{ACCESS, EXIT, LEAVE, RECOVER, Rank};
-use crate::stages::know_stages;
+use crate::rank::{ACCESS, EXIT, LEAVE, Rank};
 use crate::sweeping::SweptKind;
 use cf_bind::Move;
 use cf_core::Core;
 
 /// Access.
 pub struct AccessKind;
-
-/// Recover, by stage.
-pub struct RecoverKind;
 
 /// Leave.
 pub struct LeaveKind;
@@ -52,32 +48,6 @@ impl SweptKind for AccessKind {
             Some(1)
         } else {
             None
-        }
-    }
-}
-
-impl SweptKind for RecoverKind {
-    ghost at_stage = { mv.Recover };
-
-    ghost from = { from_recover };
-
-    ghost beyond = { from_leave };
-
-    ghost onward = { from_recover };
-
-    #[inline(always)]
-    #[tactic(auto, using(crate::proofs::PickedFrom::recovered_on))]
-    fn at(i: u32) -> Move {
-        Move::Recover(i)
-    }
-
-    #[inline(always)]
-    fn next(core: &Core, last: Rank) -> Option<u32> {
-        know_stages(core);
-        let masks = core.masks();
-        match lowest(last.after(RECOVER, masks.recover)) {
-            Some(k) => Some(k + 1),
-            None => None,
         }
     }
 }

@@ -29,13 +29,14 @@ mod visiting;
 mod words;
 
 pub use candidates::Candidates;
-pub use ending_kinds::{AccessKind, ExitKind, LeaveKind, RecoverKind};
+pub use ending_kinds::{AccessKind, ExitKind, LeaveKind};
 pub use known::is_known_allowed;
 pub use packed::PackedCandidates;
 pub use rank::Rank;
 pub use sharing::shares;
-pub use stage_kinds::{StageKind, climbs_left};
-pub use sweeping::{
-    ClimbKind, EmitKind, ExecuteKind, FallKind, LaunchKind, MeetKind, SendKind, SweptKind,
+pub use stage_kinds::{
+    ClimbKind, ExecuteKind, FallKind, LaunchKind, MeetKind, RecoverKind, SendKind, StageKind,
+    climbs_left,
 };
+pub use sweeping::{EmitKind, SweptKind};
 pub use visiting::Visitor;

@@ -17,10 +17,8 @@ ghost use Rattle.cf_index.specs.PickedFrom.{IsPickedFrom, from_climb, from_execu
 
 use crate::ahead::{climbs_after, falls_after};
 use crate::bits::lowest_stage;
-use crate::ending_kinds::RecoverKind;
 use crate::rank::{EXECUTE, LAUNCH, MEET, RECOVER, Rank, SEND};
 use crate::stages::{executes, know_stages, launches, meets, sends};
-use crate::sweeping::{ClimbKind, ExecuteKind, FallKind, LaunchKind, MeetKind, SendKind};
 use crate::words::{resting, with_next, without_lowest};
 use cf_bind::Move;
 use cf_core::Core;
@@ -60,6 +58,91 @@ pub trait StageKind {
         requires { goes_on core.now.state ≡ true }
         ensures { (old : State) (r : Rank) → IsProcessor core.now.plan old → IsMadeAt core.now.plan old core.now.state r at_stage left i →
             AreLeft core.now.plan core.now.state (rank_of (at_stage i)) at_stage result };
+}
+
+/// Climb, by stage.
+pub struct ClimbKind;
+
+/// Fall, by stage.
+pub struct FallKind;
+
+/// Meet, by stage.
+pub struct MeetKind;
+
+/// Execute, by stage.
+pub struct ExecuteKind;
+
+/// Send, by stage.
+pub struct SendKind;
+
+/// Launch, by stage.
+pub struct LaunchKind;
+
+/// Recover, by stage.
+pub struct RecoverKind;
+
+impl StageKind for ClimbKind {
+    ghost at_stage = { mv.Climb };
+
+    ghost from = { from_climb };
+
+    ghost beyond = { from_fall };
+
+    #[inline(always)]
+    #[tactic(auto, using(crate::proofs::PickedFrom::climbed_on))]
+    fn at(i: u32) -> Move {
+        Move::Climb(i)
+    }
+
+    #[inline(always)]
+    fn left(core: &Core, last: Rank) -> u32 {
+        let masks = core.open_masks();
+        climbs_after(core, &masks, last, true)
+    }
+
+    #[inline(always)]
+    fn next(_core: &Core, _last: Rank, left: u32) -> Option<u32> {
+        lowest_stage(left)
+    }
+
+    // After one Climb the instruction may climb on, from a stage where none could climb before.
+    #[inline(always)]
+    fn left_after(core: &Core, i: u32, _left: u32) -> u32 {
+        Self::left(core, Rank::of(Self::at(i)))
+    }
+}
+
+impl StageKind for FallKind {
+    ghost at_stage = { mv.Fall };
+
+    ghost from = { from_fall };
+
+    ghost beyond = { from_meet };
+
+    #[inline(always)]
+    #[tactic(auto, using(crate::proofs::PickedFrom::fallen_on))]
+    fn at(i: u32) -> Move {
+        Move::Fall(i)
+    }
+
+    #[inline(always)]
+    fn left(core: &Core, last: Rank) -> u32 {
+        let masks = core.open_masks();
+        falls_after(core, &masks, last, true)
+    }
+
+    #[inline(always)]
+    fn next(_core: &Core, _last: Rank, left: u32) -> Option<u32> {
+        lowest_stage(left)
+    }
+
+    // The stage that the result has left has none now, so the result of the stage above can fall to it.
+    #[inline(always)]
+    fn left_after(core: &Core, _stage: u32, left: u32) -> u32 {
+        know_stages(core);
+        let masks = core.open_masks();
+        with_next(left, resting(&masks))
+    }
 }
 
 impl StageKind for MeetKind {
@@ -152,39 +235,6 @@ impl StageKind for SendKind {
     }
 }
 
-impl StageKind for FallKind {
-    ghost at_stage = { mv.Fall };
-
-    ghost from = { from_fall };
-
-    ghost beyond = { from_meet };
-
-    #[inline(always)]
-    #[tactic(auto, using(crate::proofs::PickedFrom::fallen_on))]
-    fn at(i: u32) -> Move {
-        Move::Fall(i)
-    }
-
-    #[inline(always)]
-    fn left(core: &Core, last: Rank) -> u32 {
-        let masks = core.open_masks();
-        falls_after(core, &masks, last, true)
-    }
-
-    #[inline(always)]
-    fn next(_core: &Core, _last: Rank, left: u32) -> Option<u32> {
-        lowest_stage(left)
-    }
-
-    // The stage that the result has left has none now, so the result of the stage above can fall to it.
-    #[inline(always)]
-    fn left_after(core: &Core, _stage: u32, left: u32) -> u32 {
-        know_stages(core);
-        let masks = core.open_masks();
-        with_next(left, resting(&masks))
-    }
-}
-
 impl StageKind for LaunchKind {
     ghost at_stage = { mv.Launch };
 
@@ -242,37 +292,6 @@ impl StageKind for RecoverKind {
     }
 
     // The siding that the operation has left may be that of another stage too.
-    #[inline(always)]
-    fn left_after(core: &Core, i: u32, _left: u32) -> u32 {
-        Self::left(core, Rank::of(Self::at(i)))
-    }
-}
-
-impl StageKind for ClimbKind {
-    ghost at_stage = { mv.Climb };
-
-    ghost from = { from_climb };
-
-    ghost beyond = { from_fall };
-
-    #[inline(always)]
-    #[tactic(auto, using(crate::proofs::PickedFrom::climbed_on))]
-    fn at(i: u32) -> Move {
-        Move::Climb(i)
-    }
-
-    #[inline(always)]
-    fn left(core: &Core, last: Rank) -> u32 {
-        let masks = core.open_masks();
-        climbs_after(core, &masks, last, true)
-    }
-
-    #[inline(always)]
-    fn next(_core: &Core, _last: Rank, left: u32) -> Option<u32> {
-        lowest_stage(left)
-    }
-
-    // After one Climb the instruction may climb on, and the one below may follow it.
     #[inline(always)]
     fn left_after(core: &Core, i: u32, _left: u32) -> u32 {
         Self::left(core, Rank::of(Self::at(i)))
