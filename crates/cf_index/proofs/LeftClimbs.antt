@@ -1,6 +1,7 @@
 -- The Climbs that are left after an instruction has climbed as far as it can.
 use Rattle.std.proofs.Common.{◌≡◌, ◌∙◌, refl, sym, ap, ℕ, zero, suc, ◌+◌, ◌-◌, ◌<◌, ◌≤◌, Bool, true, false, nat_lt, Option, Some, None, arith}
 use Rattle.std.specs.Prelude.{◌&&◌, not}
+use Rattle.std.proofs.Math.Bool.{and-false, and-true}
 use Rattle.std.proofs.lemmas.Bool.Decides.{nat_tests}
 use Rattle.cf_layout.specs.Layout.{Plan}
 use Rattle.cf_layout.specs.Words.{has_bit}
@@ -20,8 +21,8 @@ use Rattle.cf_index.specs.Left.{AreLeft, IsLowest}
 use Rattle.cf_index.specs.Ranks.{rank_of}
 use Rattle.cf_index.specs.Sites.{shares, uses_place}
 use Rattle.cf_index.proofs.Independence.{bar_kept}
-use Rattle.cf_index.proofs.LeftStages.{IsByStage, free_as, left_again, left_before, moment_of, same_allowed}
-use Rattle.cf_index.proofs.Rows.{allowed-has, climb_alone}
+use Rattle.cf_index.proofs.LeftStages.{IsByStage, barred_bit, free_as, left_again, left_before, moment_of, same_allowed}
+use Rattle.cf_index.proofs.Rows.{climb_alone}
 use Rattle.cf_index.proofs.There.{has_sidings}
 
 pub climbs_by : IsByStage Climb
@@ -67,13 +68,6 @@ climbs_keep p i (suc n) m h each above =
     rw (climbed_next p i n) (one_keeps p.plan (climbed p i n).state (i + n) m (keeps_sidings p i n h sooner) (each n (omega arith)) (omega (arith, above)))
     ∙ climbs_keep p i n m h sooner (omega (arith, above))
 
--- where it is barred, the word of the kind does not have the bit
-barred_bit : (plan : Plan) (s : State) (k : ℕ) → is_allowed plan s (Climb (k + 1)) ≡ false → has_bit (word_allowed plan s Climb) k ≡ false
-barred_bit plan s k off = allowed-has plan s Climb k ∙ rw off (none (nat_lt k plan.stages))
-  where
-    none : (b : Bool) → (b && false) ≡ false
-    none b = grind arith
-
 some_bar : (o : Option Bar) → (o ≡ None → ⊥) → not (is_some o) ≡ false
 some_bar None some = absurd (some refl)
 some_bar (Some b) some = refl
@@ -99,26 +93,20 @@ left_climbs p i j r w v lowest is left processor to =
     before : (k : ℕ) → i ≤ k → has_bit v k ≡ has_bit (word_allowed p.plan p.state Climb) k
     before k above =
         let past : nat_lt k i ≡ false = grind (arith, nat_tests) in
-        is k ∙ rw past (all (has_bit w k)) ∙ left_before p.plan p.state r Climb w i k climbs_by left lowest above
-      where
-        all : (b : Bool) → (b && true) ≡ b
-        all b = grind arith
+        is k ∙ rw past (and-true (has_bit w k)) ∙ left_before p.plan p.state r Climb w i k climbs_by left lowest above
 
     below : (k : ℕ) → k < j → (b : Bool) → nat_lt k i ≡ b → has_bit v k ≡ false
-    below k lower true e = is k ∙ rw e (none (has_bit w k))
-      where
-        none : (b : Bool) → (b && false) ≡ false
-        none b = grind arith
+    below k lower true e = is k ∙ rw e (and-false (has_bit w k))
     below k lower false e =
         let low : i ≤ k = grind (arith, nat_tests) in
-        before k low ∙ barred_bit p.plan p.state k (none_between p i j k h to low lower)
+        before k low ∙ barred_bit p.plan p.state Climb k (none_between p i j k h to low lower)
 
     here : (k : ℕ) → j - 1 ≤ k → (b : Bool) → nat_lt k j ≡ b → has_bit v k ≡ has_bit (word_allowed p.plan (climbed p i (j - i)).state Climb) k
     here k above true e =
         let lower : k < j = grind (arith, nat_tests) in
         let z : i + (j - i) ≡ k + 1 = omega (arith, above, lower, to.higher) in
         let off : is_allowed p.plan (climbed p i (j - i)).state (Climb (k + 1)) ≡ false = rw z at (some_bar _ to.ends) in
-        below k lower (nat_lt k i) refl ∙ sym (barred_bit p.plan (climbed p i (j - i)).state k off)
+        below k lower (nat_lt k i) refl ∙ sym (barred_bit p.plan (climbed p i (j - i)).state Climb k off)
     here k above false e =
         let past : i + (j - i) < k + 1 = grind (arith, nat_tests, to.higher) in
         before k (omega (arith, past)) ∙ sym (same_allowed p.plan p.state (climbed p i (j - i)).state Climb k

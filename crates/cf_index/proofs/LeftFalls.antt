@@ -18,8 +18,8 @@ use Rattle.cf_index.specs.Ranks.{rank_of}
 use Rattle.cf_index.specs.Sites.{shares, uses_place}
 use Rattle.cf_index.specs.Words.{full_bit, goes_on}
 use Rattle.cf_index.proofs.Independence.{bar_kept}
-use Rattle.cf_index.proofs.LeftStages.{IsByStage, KeepsAbove, free_as, left_again, left_before, lowest_free, moment_of, same_allowed}
-use Rattle.cf_index.proofs.Rows.{allowed-has, fall_alone, fallen_next}
+use Rattle.cf_index.proofs.LeftStages.{IsByStage, KeepsAbove, barred_bit, free_as, left_again, left_before, lowest_free, moment_of, same_allowed}
+use Rattle.cf_index.proofs.Rows.{fall_alone, fallen_next}
 use Rattle.cf_index.proofs.There.{has_sidings}
 
 pub falls_by : IsByStage Fall
@@ -30,13 +30,6 @@ falls_keep : KeepsAbove Fall 1
 unfolding shares uses_place next
 falls_keep plan s i j processor free apart = free_as plan s (moved plan s (Fall i)) (Fall j)
     (bar_kept plan (moment_of s) (Fall i) (Fall j) (has_sidings plan s processor) free tt refl refl (grind (arith, nat_tests)))
-
--- where it is barred, the word of the kind does not have the bit
-barred_bit : (plan : Plan) (s : State) (k : ℕ) → is_allowed plan s (Fall (k + 1)) ≡ false → has_bit (word_allowed plan s Fall) k ≡ false
-barred_bit plan s k off = allowed-has plan s Fall k ∙ rw off (none (nat_lt k plan.stages))
-  where
-    none : (b : Bool) → (b && false) ≡ false
-    none b = grind arith
 
 pub left_falls : (plan : Plan) (old s : State) (m : Masks) (r : Rank) (w v i : ℕ) → IsProcessor plan old → IsMadeAt plan old s r Fall w i → goes_on s ≡ true →
     m ≡ masks_of plan s → length s.cells ≡ plan.stages →
@@ -64,7 +57,7 @@ left_falls plan old s m r w v i processor made on e same is =
         ((has_bit w k && not (nat_lt k i)) || (nat_eq k i && (has_bit m.packets k && not (full_bit m k)))) ≡ has_bit (word_allowed plan s Fall) k
     by k above true f =
         let at : k ≡ i = grind (arith, nat_tests) in
-        let none : has_bit w i ≡ false = before i (omega arith) ∙ barred_bit plan old i (fall_alone plan old i free) in
+        let none : has_bit w i ≡ false = before i (omega arith) ∙ barred_bit plan old Fall i (fall_alone plan old i free) in
         let eq : nat_eq i i ≡ true = grind (arith, nat_tests) in
         rw (at, none, eq) (sym (fallen_next plan old s m i free made.moved_is on e same made.lowest.numbered))
     by k above false f =

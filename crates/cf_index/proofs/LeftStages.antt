@@ -1,6 +1,7 @@
 -- The stages that are left of a kind of move, after such a move was made at the lowest of them.
 use Rattle.std.proofs.Common.{◌≡◌, ◌∙◌, refl, sym, ap, ℕ, ◌+◌, ◌-◌, ◌<◌, ◌≤◌, Bool, true, false, nat_lt, List, [], ◌++◌, Option, Some, None, arith}
 use Rattle.std.specs.Prelude.{◌&&◌, not, find, slice_get, IfSome}
+use Rattle.std.proofs.Math.Bool.{and-false, and-true}
 use Rattle.std.proofs.lemmas.Bool.Decides.{nat_tests}
 use Rattle.cf_layout.specs.Layout.{Plan}
 use Rattle.cf_layout.specs.Words.{has_bit}
@@ -87,16 +88,10 @@ left_again plan s kind w i by lower above k = go (nat_lt k i) refl
     go : (b : Bool) → nat_lt k i ≡ b → has_bit w k ≡ (has_bit (word_allowed plan s kind) k && is_past (rank_of (kind i)) (kind (k + 1)))
     go true e =
         let off : nat_lt i (k + 1) ≡ false = grind (arith, nat_tests) in
-        lower k (grind (arith, nat_tests)) ∙ rw (past_stage kind i k by, off) (none (has_bit (word_allowed plan s kind) k))
-      where
-        none : (b : Bool) → false ≡ (b && false)
-        none b = grind arith
+        lower k (grind (arith, nat_tests)) ∙ rw (past_stage kind i k by, off) (sym (and-false (has_bit (word_allowed plan s kind) k)))
     go false e =
         let on : nat_lt i (k + 1) ≡ true = grind (arith, nat_tests) in
-        above k (grind (arith, nat_tests)) ∙ rw (past_stage kind i k by, on) (all (has_bit (word_allowed plan s kind) k))
-      where
-        all : (b : Bool) → b ≡ (b && true)
-        all b = grind arith
+        above k (grind (arith, nat_tests)) ∙ rw (past_stage kind i k by, on) (sym (and-true (has_bit (word_allowed plan s kind) k)))
 
 both : (a b : Bool) → (a && b) ≡ true → (a ≡ true) × (b ≡ true)
 both true b e = (refl, e)
@@ -121,16 +116,17 @@ pub left_before : (plan : Plan) (old : State) (r : Rank) (kind : ℕ → Move) (
 unfolding AreLeft
 left_before plan old r kind w i k by left lowest above =
     let past = past_above kind r i k by (lowest_is plan old r kind w i left lowest).1 above in
-    left k ∙ rw past (all (has_bit (word_allowed plan old kind) k))
-  where
-    all : (b : Bool) → (b && true) ≡ b
-    all b = grind arith
+    left k ∙ rw past (and-true (has_bit (word_allowed plan old kind) k))
 
 -- where the move is allowed as before, the word of the kind has the bit as before
 pub same_allowed : (plan : Plan) (old new : State) (kind : ℕ → Move) (k : ℕ) → is_allowed plan new (kind (k + 1)) ≡ is_allowed plan old (kind (k + 1)) →
     has_bit (word_allowed plan new kind) k ≡ has_bit (word_allowed plan old kind) k
 same_allowed plan old new kind k same =
     allowed-has plan new kind k ∙ ap (λ (b : Bool). nat_lt k plan.stages && b) same ∙ sym (allowed-has plan old kind k)
+
+-- where it is barred, the word of the kind does not have the bit
+pub barred_bit : (plan : Plan) (s : State) (kind : ℕ → Move) (k : ℕ) → is_allowed plan s (kind (k + 1)) ≡ false → has_bit (word_allowed plan s kind) k ≡ false
+barred_bit plan s kind k off = allowed-has plan s kind k ∙ rw off (and-false (nat_lt k plan.stages))
 
 -- a kind at one stage does not change whether it is allowed at another
 abbrev pub KeepsAbove : (ℕ → Move) → ℕ → Type 0
@@ -146,20 +142,14 @@ left_alone plan old new r kind w v i by keeps processor made is =
     free = lowest_free plan old r kind w i made.left made.lowest
 
     off : (k : ℕ) → k < i → (has_bit w k && not (nat_lt k i)) ≡ false
-    off k lower = let e : nat_lt k i ≡ true = grind (arith, nat_tests) in rw e (none (has_bit w k))
-      where
-        none : (b : Bool) → (b && false) ≡ false
-        none b = grind arith
+    off k lower = let e : nat_lt k i ≡ true = grind (arith, nat_tests) in rw e (and-false (has_bit w k))
 
     on : (k : ℕ) → i ≤ k → (has_bit w k && not (nat_lt k i)) ≡ has_bit (word_allowed plan new kind) k
     on k above =
         let e : nat_lt k i ≡ false = grind (arith, nat_tests) in
         let kept = keeps plan old i (k + 1) processor free (omega (arith, above)) in
-        rw e (all (has_bit w k)) ∙ left_before plan old r kind w i k by made.left made.lowest above
+        rw e (and-true (has_bit w k)) ∙ left_before plan old r kind w i k by made.left made.lowest above
         ∙ sym (same_allowed plan old new kind k (ap (λ (s : State). is_allowed plan s (kind (k + 1))) made.moved_is ∙ kept))
-      where
-        all : (b : Bool) → (b && true) ≡ b
-        all b = grind arith
 
 -- The kinds --
 
