@@ -3,6 +3,7 @@ use Rattle.std.proofs.Common.{◌≡◌, ◌∙◌, refl, sym, ap, ℕ, zero, su
 use Rattle.std.specs.Prelude.{◌&&◌, not, slice_get}
 use Rattle.std.specs.Int.{bit_at, trailing_zeros}
 use Rattle.std.specs.Int.RustNames.{bit_and}
+use Rattle.std.proofs.Math.Bool.{and-true}
 use Rattle.std.proofs.lemmas.Bool.Decides.{nat_tests}
 use Rattle.std.proofs.lemmas.Nat.{shr_split}
 use Rattle.std.proofs.lemmas.Nat.Bits.{bit_at-trailing_zeros}
@@ -48,10 +49,7 @@ cleared_odd w k odd =
         let z : suc k - 1 ≡ k = omega arith in
         let p : nat_lt 0 (suc k) ≡ true = grind (arith, nat_tests) in
         let q : nat_lt (suc k) 1 ≡ false = grind (arith, nat_tests) in
-        rw (z, p, q, half w k) (kept (has_bit w (suc k)))
-      where
-        kept : (b : Bool) → b ≡ (b && true)
-        kept b = grind arith
+        rw (z, p, q, half w k) (sym (and-true (has_bit w (suc k))))
 
 cleared_even : (m w k i : ℕ) → w ≡ suc m * 2 ^ 1 + 0 → has_bit w 0 ≡ false →
     ((j : ℕ) → has_bit (bit_and (suc m) (suc m - 1)) j ≡ (has_bit (suc m) j && not (nat_lt j i))) →

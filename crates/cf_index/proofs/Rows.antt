@@ -2,6 +2,7 @@
 use Rattle.std.proofs.Common.{◌≡◌, ◌∙◌, refl, sym, ap, ℕ, zero, suc, ◌+◌, ◌-◌, ◌<◌, ◌≤◌, List, [], ◌∷◌, length, Option, Some, None, Bool, true, false, nat_lt, arith}
 use Rattle.std.specs.Prelude.{◌&&◌, if◌then◌else◌, nat_eq, not, slice_get}
 use Rattle.std.specs.Int.{bit_at}
+use Rattle.std.proofs.Math.Bool.{and-false}
 use Rattle.std.proofs.lemmas.Bool.Decides.{nat_tests}
 use Rattle.std.proofs.lemmas.Nat.Bits.{bit_at-lt, same_from_bits}
 use Rattle.std.proofs.lemmas.Option.{slice_get_within}
@@ -185,10 +186,7 @@ send_row (Some c) = grind arith
 -- a move that its row bars is not allowed
 barred_row : (plan : Plan) (s : State) (mv : Move) → not (is_some (row_bar plan s mv)) ≡ false → is_allowed plan s mv ≡ false
 barred_row plan s mv off =
-    allowed-as plan s mv (is_some s.ending) s.failed refl refl ∙ ap (λ (b : Bool). goes_on s && b) off ∙ none (goes_on s)
-  where
-    none : (b : Bool) → (b && false) ≡ false
-    none b = grind arith
+    allowed-as plan s mv (is_some s.ending) s.failed refl refl ∙ ap (λ (b : Bool). goes_on s && b) off ∙ and-false (goes_on s)
 
 free_row : (plan : Plan) (s : State) (mv : Move) → bar plan s mv ≡ None → true ≡ not (is_some (row_bar plan s mv))
 free_row plan s mv free = rw (bar_row plan s mv free) refl
