@@ -26,7 +26,7 @@ use Rattle.cf_core.specs.Riders.{is_spent}
 use Rattle.cf_core.specs.declared.marks.Marks.{Marks}
 use Rattle.cf_core.specs.declared.marks.StageMark.{StageMark}
 use Rattle.cf_core.proofs.Blocks.{no-work, work-class}
-use Rattle.cf_core.proofs.LiftedMarks.{ends}
+use Rattle.cf_core.proofs.LiftedMarks.{ends, no-passenger}
 use Rattle.cf_core.proofs.Lifts.{at-bottom, at-top, climb-stage, rider}
 use Rattle.cf_core.proofs.Rides.{here-by, mark-none, owes-here}
 use Rattle.cf_core.proofs.StillMarks.{rider-unlaunched}
@@ -85,10 +85,6 @@ climbed_at plan s marks i j low high left free lo ls ll lr ho hl hr =
       recover = recover x;
     }
 
-no_rider : (o : Option Passenger) → IsNone o → o ≡ None
-no_rider None g = refl
-no_rider (Some p) g = absurd (cc)
-
 pub climbed-marks : (plan : Plan) (s : State) (marks : Marks) (i j stopped executed : ℕ) (stops executes : Bool) → HasClimbed plan s marks i j →
     stops ≡ stops_there plan s j → executes ≡ row_allows plan s (Execute j) → row_allows plan s (Launch j) ≡ false → row_allows plan s (Recover j) ≡ false →
     stopped ≡ with_bit marks.stops (j - 1) stops → executed ≡ with_bit (with_bit marks.execute (i - 1) false) (j - 1) executes →
@@ -96,7 +92,7 @@ pub climbed-marks : (plan : Plan) (s : State) (marks : Marks) (i j stopped execu
 unfolding mark_at
 climbed-marks plan s marks i j stopped executed stops executes h stop execute launch recover is was =
     let low : StageMark = record no_mark { execute = h.could } in
-    let gone = mark-none plan s i (no_rider (passenger_at s.cells i) h.gone) in
+    let gone = mark-none plan s i (no-passenger (passenger_at s.cells i) h.gone) in
     rw (is, was, stop, execute) (climbed_at plan s marks i j low (mark_at plan s j) h.left h.free refl refl refl refl h.owes launch recover
     ∙ ap (λ (m : StageMark). marked (marked marks i m) j (mark_at plan s j)) gone)
 
@@ -158,7 +154,7 @@ has-climbed p new marks i j h free climbs within room is kept =
       could = row_allows p.plan p.state (Execute i);
       left = marked_kept p.plan p.state i _ few stage.0 (omega (arith, stage.1)) (mark_before p.plan p.state i q.0 q.1 r.owes r.stays);
       free = marked_kept p.plan p.state j no_mark few (omega (arith, up)) within
-          (sym (mark-none p.plan p.state j (no_rider (passenger_at p.state.cells j) room)));
+          (sym (mark-none p.plan p.state j (no-passenger (passenger_at p.state.cells j) room)));
     })
 
 pub ruleset climbing = (climbed-marks)

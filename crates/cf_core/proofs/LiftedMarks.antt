@@ -58,9 +58,9 @@ lifted-marks p new marks i j h low climbs within is kept =
     (with_new_passenger e.from.passenger e.to))).state i j h.accepted.stages.1 low (omega arith) (omega arith) within but))
 
 -- those of an instruction that is spent are as they were
-no_passenger : (o : Option Passenger) → IsNone o → o ≡ None
-no_passenger None g = refl
-no_passenger (Some p) g = absurd (cc)
+pub no-passenger : (o : Option Passenger) → IsNone o → o ≡ None
+no-passenger None g = refl
+no-passenger (Some p) g = absurd (cc)
 
 pub lifted-same : (p new : Processor) (marks : Marks) (i j : ℕ) → IsProcessor p.plan p.state → 0 < i → ClimbsTo p i j → j ≤ p.plan.stages →
     IsNone (passenger_at p.state.cells j) → new ≡ with_cells p (cells_lifted p.state.cells i j) → rides p.state i is_spent ≡ true →
@@ -68,7 +68,7 @@ pub lifted-same : (p new : Processor) (marks : Marks) (i j : ℕ) → IsProcesso
 lifted-same p new marks i j h low climbs within room is spent kept =
     let e = ends p i j h low climbs.higher within in
     let free : e.to.passenger ≡ None = sym (ap (λ (o : Option Cell). on o None (λ c. c.passenger)) e.there)
-    ∙ no_passenger (passenger_at p.state.cells j) room in
+    ∙ no-passenger (passenger_at p.state.cells j) room in
     let still = sym (ap (λ (o : Option Cell). on o false (λ c. on c.passenger false is_spent)) e.here) ∙ spent in
     rw (is, kept, e.is) (marks-same p.plan p.state _ (by_rider e free e.from.passenger refl still))
   where

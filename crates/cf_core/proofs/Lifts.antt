@@ -273,10 +273,6 @@ ends p i j q r f n is on_up =
 
 -- so the instruction climbs on to the first stage at which it is blocked
 pub record Lift (p : Processor) (i j : ℕ) : Type 0 where
-  pub low : 0 < i
-  pub order : i < j
-  pub within : j ≤ p.plan.stages
-  pub there : IsSome (passenger_at p.state.cells i)
   pub room : IsNone (passenger_at p.state.cells j)
   pub climbs : ClimbsTo p i j
   pub processor : climbed p i (j - i) ≡ with_cells p (cells_lifted p.state.cells i j)
@@ -290,10 +286,6 @@ lift p i j q facts free rides f =
     let r = rider p i q facts free rides in
     let n = some_steps i j f.higher in
     record {
-      low = stage-low p.state.cells i r.from r.here;
-      order = f.higher;
-      within = f.within;
-      there = rw rides refl;
       room = rw (passed p i j q r f j f.higher (omega arith)) refl;
       climbs = record {
         higher = f.higher;

@@ -1,4 +1,4 @@
-//! An instruction climbs on: all its moves up to the stage at which it is stopped, made at once.
+//! An instruction climbs on: all its moves up to the stage at which it is blocked, made at once.
 
 ghost use Rattle.std.specs.Prelude.{◌≡◌, ◌-◌, ◌<◌, ◌≤◌, IsNone, IsSome, None, Some};
 ghost use Rattle.cf_bind.specs.declared.moves.Move.TheVariants as mv;
