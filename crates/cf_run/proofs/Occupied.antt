@@ -1,6 +1,6 @@
 -- A move by which nothing enters at the bottom or leaves leaves something where it was made: an instruction, a result or an
 -- operation. So the processor is not drained then, and the pace is unchanged.
-use Rattle.std.proofs.Common.{◌≡◌, ◌∙◌, sym, refl, ap, ℕ, zero, suc, ◌+◌, ◌-◌, ◌*◌, ◌≤◌, ◌<◌, List, [], ◌∷◌, length, length-set, Bool, true, false, cond, Option, Some, None, arith, add-one, sub-one}
+use Rattle.std.proofs.Common.{◌≡◌, ◌∙◌, sym, refl, ap, ℕ, zero, suc, ◌+◌, ◌-◌, ◌≤◌, ◌<◌, List, [], ◌∷◌, length, length-set, Bool, true, false, Option, Some, None, arith, add-one, sub-one}
 use Rattle.std.specs.Prelude.{◌&&◌, ◌||◌, if◌then◌else◌, not, slice_get, slice_set}
 use Rattle.std.specs.List.{list_any}
 use Rattle.std.proofs.lemmas.Option.{slice_get_within}
@@ -33,7 +33,7 @@ use Rattle.theory_refinement.proofs.moves.Fall.{fall_ready, next_fall}
 use Rattle.theory_refinement.proofs.moves.Launch.{launch_ready, launched_out, launched_trap, next_launch}
 use Rattle.theory_refinement.proofs.moves.Meet.{meet_ready, next_meet}
 use Rattle.theory_refinement.proofs.moves.Recovering.{next_recover, recover_ready}
-use Rattle.theory_refinement.proofs.moves.Rows.{bar_row, put_size}
+use Rattle.theory_refinement.proofs.moves.Rows.{bar_row}
 use Rattle.theory_refinement.proofs.moves.Send.{next_send, send_ready}
 use Rattle.theory_refinement.proofs.moves.Slide.{next_slide, slide_ready}
 use Rattle.cf_stages.proofs.Parts.{cell-put-other}

@@ -191,7 +191,7 @@ fn sweep_climbs(
     let mut place = from;
     let mut left = ClimbKind::left(core, from.rank);
     loop {
-        match <ClimbKind as StageKind>::next(core, place.rank, left) {
+        match ClimbKind::next(core, place.rank, left) {
             Some(stage) => {
                 let top = make_climbs(core, place.last, stage, pace, limit, tally);
                 place = place_after(Move::Climb(top - 1));
