@@ -1,5 +1,5 @@
 -- What is seen of a meeting is its event.
-use Rattle.std.proofs.Common.{◌≡◌, ℕ, List, Option, Some, None, Bool, false, refl, sym, subst, ◌∙◌, arith}
+use Rattle.std.proofs.Common.{◌≡◌, ℕ, List, Option, Some, None, Bool, false, refl, ap, subst, ◌∙◌, arith}
 use Rattle.std.specs.Prelude.{IsTrue}
 use Rattle.std.proofs.lemmas.Option.{same_Some}
 use Rattle.cf_bind.specs.declared.cell.Cell.{Cell}
@@ -10,26 +10,31 @@ use Rattle.cf_semantics.specs.state.State.{cell_at}
 use Rattle.cf_semantics.specs.moves.Events.{meeting_event}
 use Rattle.cf_semantics.specs.declared.event.Event.TheVariants as event
 use Rattle.cf_semantics.specs.state.Options.{on}
-use Rattle.cf_stages.specs.Changes.{changed, met_in, is_full_at}
-use Rattle.cf_core.specs.Seen.{event_seen}
+use Rattle.cf_stages.specs.Changes.{changed, is_full_at, met_in, packet_at}
+use Rattle.cf_core.specs.Seen.{dies_at, event_seen, is_fatal}
 use Rattle.cf_core.proofs.Cells.{cell-put}
 
 seen_in : (o : Option Passenger) (q : Option Packet) (met : Bool) → IsTrue (is_full (record { passenger = o; packet = q; met = met })) →
-    event_seen (record { passenger = o; packet = q; met = met }) (met_in (record { passenger = o; packet = q; met = met }))
+    event_seen (on o false (λ p. on q false (is_fatal p))) (met_in (record { passenger = o; packet = q; met = met })).packet
     ≡ on o event.Plain (λ p. on q event.Plain (meeting_event p))
 unfolding event_seen
 seen_in None q met f = absurd (cc)
 seen_in (Some p) None met f = absurd (cc)
 seen_in (Some p) (Some k) met f = refl
 
--- the event of a stage that is full, given what the meeting leaves there
-pub meeting-event : (cells : List Cell) (i : ℕ) (before after : Cell) → Some before ≡ cell_at cells i → IsTrue (is_full_at cells i) →
-    Some after ≡ cell_at (changed cells i met_in) i → event_seen before after ≡ on (cell_at cells i) event.Plain
+-- the event of a stage that is full, given whether its instruction dies and what the meeting leaves of the result
+pub meeting-event : (cells : List Cell) (i : ℕ) (dies : Bool) (left : Option Packet) → IsTrue (is_full_at cells i) → dies ≡ dies_at cells i →
+    left ≡ packet_at (changed cells i met_in) i → event_seen dies left ≡ on (cell_at cells i) event.Plain
     (λ c. on c.passenger event.Plain (λ p. on c.packet event.Plain (meeting_event p)))
-meeting-event cells i before after e f g =
-    let h : Some after ≡ Some (met_in before) = g ∙ rw (← e) (cell-put cells i before (met_in before) (sym e)) in
-    let a : after ≡ met_in before = same_Some after (met_in before) h in
-    rw (← e, a) (seen_in before.passenger before.packet before.met (subst (λ o. IsTrue (on o false is_full)) (sym e) f))
+meeting-event cells i dies left full falls is = by (cell_at cells i) refl
+  where
+    by : (o : Option Cell) → cell_at cells i ≡ o → event_seen dies left ≡ on o event.Plain
+        (λ c. on c.passenger event.Plain (λ p. on c.packet event.Plain (meeting_event p)))
+    by None e = let no = subst (λ (o : Option Cell). IsTrue (on o false is_full)) e full in absurd (cc)
+    by (Some c) e =
+        let here : left ≡ (met_in c).packet = is ∙ rw e (ap (λ (o : Option Cell). on o None (λ d. d.packet)) (cell-put cells i c (met_in c) e)) in
+        let told : dies ≡ on c.passenger false (λ p. on c.packet false (is_fatal p)) = falls ∙ rw e refl in
+        rw (here, told) (seen_in c.passenger c.packet c.met (subst (λ (o : Option Cell). IsTrue (on o false is_full)) e full))
 
 -- a stage is full if nothing bars the meeting there
 pub allowed-full : (cells : List Cell) (i : ℕ) → at cells i meet_bar ≡ None → IsTrue (is_full_at cells i)

@@ -1,6 +1,6 @@
 //! Meet: the instruction and the result of a stage meet.
 
-ghost use Rattle.std.specs.Prelude.{◌≡◌, false, None, ◌<◌, ◌≤◌};
+ghost use Rattle.std.specs.Prelude.{◌≡◌, false, length, None, ◌<◌, ◌≤◌};
 ghost use Rattle.cf_bind.specs.declared.moves.Move.TheVariants as mv;
 ghost use Rattle.cf_semantics.specs.moves.Bars.{row_bar};
 ghost use Rattle.cf_semantics.specs.moves.Events.{IsEvent};
@@ -8,33 +8,35 @@ ghost use Rattle.cf_semantics.specs.state.Options.{on};
 ghost use Rattle.cf_core.specs.Marks.{passes_by as stands_by};
 ghost use Rattle.cf_core.specs.Processors.{IsProcessor, after_move};
 ghost use Rattle.cf_core.specs.Riders.{awaits as waits_for, is_passed_by as passed_by};
-ghost use Rattle.cf_core.specs.Seen.{died, event_seen as seen_of};
+ghost use Rattle.cf_core.specs.Seen.{dies_at, event_seen as seen_of, is_fatal as fatal};
 
 use crate::processor::Processor;
 use crate::rows::first_of;
 use cf_bind::{Bar, Binding, Cell, Packet, Passenger};
 use cf_semantics::Event;
 
-/// Whether an instruction was live and is dead now.
+/// Whether the instruction is live and the result makes it dead.
 #[inline(always)]
-fn has_died(before: Option<Passenger>, after: Option<Passenger>) -> bool
-    ensures { result ≡ died before after }
+#[tactic(auto, unfolding(cf_bind::specs::Meeting::meeting))]
+fn is_fatal(passenger: &Passenger, packet: Packet) -> bool
+    ensures { result ≡ fatal passenger.now packet }
 {
-    match (before, after) {
-        (Some(before), Some(after)) => !before.dead && after.dead,
-        _ => false,
+    match packet {
+        Packet::Value { .. } => false,
+        Packet::Turn(_) => !passenger.dead,
+        Packet::Halt => !passenger.dead,
     }
 }
 
-/// What a meeting that changed the stage from the first content to the second shows to the outside.
+/// What a meeting shows to the outside, by whether its instruction dies and by what is left of its result.
 #[inline(always)]
 #[tactic(auto, unfolding(crate::specs::Seen::event_seen))]
-fn seen(before: Cell, after: Cell) -> Event
-    ensures { result ≡ seen_of before after }
+fn seen(dies: bool, left: Option<Packet>) -> Event
+    ensures { result ≡ seen_of dies left }
 {
-    if after.packet.is_none() {
+    if left.is_none() {
         Event::Killed
-    } else if has_died(before.passenger, after.passenger) {
+    } else if dies {
         Event::Died
     } else {
         Event::Plain
@@ -87,7 +89,21 @@ impl Processor {
         ])
     }
 
+    /// Whether the instruction of the stage is live and the result there makes it dead.
+    #[inline(always)]
+    fn dies(&self, i: u32) -> bool
+        requires above { 0 < i }
+        requires within { i ≤ length self.now.state.cells }
+        ensures { result ≡ dies_at self.now.state.cells i }
+    {
+        match (self.stages.passenger(i), self.stages.packet(i)) {
+            (Some(passenger), Some(packet)) => is_fatal(passenger, packet),
+            _ => false,
+        }
+    }
+
     /// The instruction and the result of the stage meet. Returns what this shows to the outside.
+    // What kind of result it is says before the meeting whether the instruction dies, so that it need not be looked at twice.
     #[inline(always)]
     #[tactic(auto, using(crate::proofs::moves::Meetings::meeting_in_stage), unfolding(cf_semantics::specs::moves::Moves::moved))]
     pub(crate) fn meet(&mut self, i: u32) -> Event
@@ -95,9 +111,9 @@ impl Processor {
         ensures processor { self.new ≡ after_move self.old (mv.Meet i) }
         ensures event { IsEvent self.old.plan self.old.state (mv.Meet i) result }
     {
-        let before = self.stages.cell(i);
+        let dies = self.dies(i);
         self.stages.meet_at(i);
-        seen(before, self.stages.cell(i))
+        seen(dies, self.stages.packet(i))
     }
 
     /// Whether the stage has an instruction and a value that the instruction does not wait for.
