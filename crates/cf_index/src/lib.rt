@@ -5,13 +5,14 @@ mod after;
 mod ahead;
 mod bits;
 mod candidates;
-mod ending_kinds;
+mod ending;
 mod entering;
 mod fill;
 mod guiding;
 mod idle;
 mod known;
 mod leaving;
+mod once_kinds;
 mod outward;
 mod packed;
 mod packing;
@@ -24,13 +25,12 @@ mod soon;
 mod stage_kinds;
 mod stages;
 mod starting;
-mod sweeping;
 mod visiting;
 mod words;
 
 pub use candidates::Candidates;
-pub use ending_kinds::{AccessKind, ExitKind, LeaveKind};
 pub use known::is_known_allowed;
+pub use once_kinds::{AccessKind, EmitKind, ExitKind, LeaveKind, OnceKind};
 pub use packed::PackedCandidates;
 pub use rank::Rank;
 pub use sharing::shares;
@@ -38,5 +38,4 @@ pub use stage_kinds::{
     ClimbKind, ExecuteKind, FallKind, LaunchKind, MeetKind, RecoverKind, SendKind, StageKind,
     climbs_left,
 };
-pub use sweeping::{EmitKind, SweptKind};
 pub use visiting::Visitor;

@@ -458,18 +458,13 @@ within-sweeps limit now core m tally e after before ready picked is event counts
 
 -- Where the next pick is looked for --
 
--- the parts in which a pick is looked for are the same
-pub picks_same : (rule : GuessRule) (held : Bool) (plan : Plan) (s : State) (last : Option Move) (r : Rank) (xs ys : List Move) → xs ≡ ys →
-    IsPickedFrom rule held plan s last r xs → IsPickedFrom rule held plan s last r ys
-picks_same rule held plan s last r xs ys is picked = subst (IsPickedFrom rule held plan s last r) is picked
-
--- or the pick and its rank are
+-- if the last pick and its rank are the same, so is where the next one is looked for
 pub picks_there : (rule : GuessRule) (held : Bool) (plan : Plan) (s : State) (m last : Move) (r : Rank) (xs : List Move) → last ≡ m → r ≡ rank_of m →
     IsPickedFrom rule held plan s (Some m) (rank_of m) xs → IsPickedFrom rule held plan s (Some last) r xs
 picks_there rule held plan s m last r xs is at picked =
     subst (λ (n : Move). IsPickedFrom rule held plan s (Some n) r xs) (sym is) (subst (λ (q : Rank). IsPickedFrom rule held plan s (Some m) q xs) (sym at) picked)
 
--- and if these have no move, only an Issue can come after the last pick
+-- if these moves have none past the rank, only an Issue can come after the last pick
 pub picks_last : (rule : GuessRule) (held : Bool) (plan : Plan) (s : State) (last : Option Move) (r : Rank) (xs : List Move) →
     IsPickedFrom rule held plan s last r xs → find (is_past r) xs ≡ None → IsLast plan s last
 unfolding IsPickedFrom

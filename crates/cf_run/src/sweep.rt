@@ -2,9 +2,7 @@
 //! neither stream, and nothing of it is shown.
 #![tactic(auto, using(crate::proofs::Turning::goes_on_so, crate::proofs::Turning::no_turns, crate::proofs::Turning::sweeps_on))]
 
-ghost use Rattle.std.specs.Prelude.{◌≡◌, ◌≢◌, ℕ, ◌+◌, ◌-◌, ◌<◌, ◌≤◌, Some};
-ghost use Rattle.cf_layout.specs.Layout.{Plan};
-ghost use Rattle.cf_semantics.specs.state.State.{State};
+ghost use Rattle.std.specs.Prelude.{◌≡◌, ◌≢◌, ◌+◌, ◌-◌, ◌<◌, ◌≤◌, Some};
 ghost use Rattle.cf_bind.specs.declared.moves.Move.TheVariants as mv;
 ghost use Rattle.cf_core.specs.Climbing.{ClimbsTo, climbed};
 ghost use Rattle.cf_core.specs.Processors.{IsProcessor, after_move};
@@ -17,8 +15,8 @@ use crate::counting::count;
 use cf_bind::Move;
 use cf_core::Core;
 use cf_index::{
-    ClimbKind, EmitKind, ExecuteKind, FallKind, LaunchKind, MeetKind, Rank, SendKind, StageKind,
-    SweptKind, climbs_left,
+    ClimbKind, EmitKind, ExecuteKind, FallKind, LaunchKind, MeetKind, OnceKind, Rank, SendKind,
+    StageKind, climbs_left,
 };
 use cf_report::Tally;
 use cf_sched::Pace;
@@ -202,50 +200,48 @@ fn sweep_climbs(
     }
 }
 
-/// Makes the move of the kind at the stage, which the rule picks, and answers where the sweep is then.
+/// Makes the move of the kind, which the rule picks, and answers where the sweep is then.
 #[inline(always)]
-fn make_at<T: SweptKind>(
+fn make_only<T: OnceKind>(
     core: &mut Core,
     last: Move,
-    stage: u32,
     pace: &mut Pace,
     limit: u64,
     tally: &mut Tally,
 ) -> SweepPlace
     requires ready { IsSweeping limit (rule_at core.old (Some last) pace.old tally.old) }
-    requires picked { PicksNext pace.old core.old (Some last) (T.at_stage stage) }
+    requires picked { PicksNext pace.old core.old (Some last) T.only_move }
     ensures swept { SweepsTo limit silent (rule_at core.old (Some last) pace.old tally.old)
         (rule_at core.new (Some result.last) pace.new tally.new) }
-    ensures ready { kind_place (T.at_stage stage) ≢ leave_place → IsSweeping limit (rule_at core.new (Some result.last) pace.new tally.new) }
-    ensures picked { PicksFrom pace.new core.new (Some result.last) result.rank T.onward }
+    ensures ready { kind_place T.only_move ≢ leave_place → IsSweeping limit (rule_at core.new (Some result.last) pace.new tally.new) }
+    ensures picked { PicksFrom pace.new core.new (Some result.last) result.rank T.beyond }
     ensures counted { tally.new.moves ≡ tally.old.moves + 1 }
 {
-    let mv = T::at(stage);
+    let mv = T::only();
     make_picked(core, last, mv, pace, limit, tally);
     place_after(mv)
 }
 
 /// Makes the move of a kind that has only one, if the rule picks it. After a Leave the run may be over.
 #[inline(always)]
-pub(crate) fn sweep_once<T: SweptKind>(
+pub(crate) fn sweep_once<T: OnceKind>(
     core: &mut Core,
     from: SweepPlace,
     pace: &mut Pace,
     limit: u64,
     tally: &mut Tally,
 ) -> SweepPlace
-    requires once { (plan : Plan) (s : State) → T.onward plan s ≡ T.beyond plan s }
     requires ready { IsSweeping limit (rule_at core.old (Some from.last) pace.old tally.old) }
     requires picked { PicksFrom pace.old core.old (Some from.last) from.rank T.from }
     ensures swept { SweepsTo limit silent (rule_at core.old (Some from.last) pace.old tally.old)
         (rule_at core.new (Some result.last) pace.new tally.new) }
-    ensures ready { ((i : ℕ) → kind_place (T.at_stage i) ≢ leave_place) →
-        IsSweeping limit (rule_at core.new (Some result.last) pace.new tally.new) }
+    ensures ready { kind_place T.only_move ≢ leave_place → IsSweeping limit (rule_at core.new (Some result.last) pace.new tally.new) }
     ensures picked { PicksFrom pace.new core.new (Some result.last) result.rank T.beyond }
 {
-    match T::next(core, from.rank) {
-        Some(stage) => make_at::<T>(core, from.last, stage, pace, limit, tally),
-        None => from,
+    if T::is_left(core, from.rank) {
+        make_only::<T>(core, from.last, pace, limit, tally)
+    } else {
+        from
     }
 }
 

@@ -10,7 +10,7 @@ sweep_once-exited-requires-clause-ready c =
     sweeping-on _ _ _ c.requires.ready c.sweep_once-left.ensures.swept (not-over _ _ _ c.over.ensures (sym c.is_some.ensures ∙ c.if-is_some.false))
 
 pub returns-else-may_serve-clause-ready : goal.returns-else-may_serve-clause-ready
-returns-else-may_serve-clause-ready c = c.sweep_once-exited.ensures.ready (λ i is. absurd (omega (arith, is)))
+returns-else-may_serve-clause-ready c = c.sweep_once-exited.ensures.ready (λ is. absurd (omega (arith, is)))
 
 pub returns-else-may_serve-clause-over : goal.returns-else-may_serve-clause-over
 returns-else-may_serve-clause-over c = picks_last _ _ _ _ _ _ _ c.sweep_once-exited.ensures.picked (c.may_serve.ensures c.if-may_serve.false)

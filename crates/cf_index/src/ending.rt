@@ -1,108 +1,19 @@
-//! The kinds of moves by which something leaves and that have no stage: Access, Leave and Exit.
+//! Two kinds of moves that a round looks for apart: Slide, of which it makes at most one, and Serve, of which it makes none.
 
 ghost use Rattle.std.specs.Prelude.{◌≡◌, ◌≢◌, Bool, IfSome, None, Some, false, find};
 ghost use Rattle.run_options.specs.declared.guess_rule.GuessRule.{GuessRule};
-ghost use Rattle.cf_bind.specs.declared.moves.Move.TheVariants as mv;
 ghost use Rattle.cf_index.specs.Order.{kind_place, slide_place};
 ghost use Rattle.cf_index.specs.Ranks.{first_rank, is_past};
-ghost use Rattle.cf_index.specs.PickedFrom.{IsPickedFrom, from_access, from_exit, from_leave, from_recover, from_serve, outward_on};
+ghost use Rattle.cf_index.specs.PickedFrom.{IsPickedFrom, from_access, from_serve, outward_on};
 
 use crate::after::passed_slides;
 use crate::bits::count;
 use crate::candidates::Candidates;
 use crate::fill::slides;
 use crate::outward::next_slide;
-use crate::rank::{ACCESS, EXIT, LEAVE, Rank};
-use crate::sweeping::SweptKind;
+use crate::rank::Rank;
 use cf_bind::Move;
 use cf_core::Core;
-
-/// Access.
-pub struct AccessKind;
-
-/// Leave.
-pub struct LeaveKind;
-
-/// Exit.
-pub struct ExitKind;
-
-impl SweptKind for AccessKind {
-    ghost at_stage = { λ i. mv.Access };
-
-    ghost from = { from_access };
-
-    ghost beyond = { from_recover };
-
-    ghost onward = { from_recover };
-
-    #[inline(always)]
-    #[tactic(auto, using(crate::proofs::PickedFrom::accessed_on))]
-    fn at(_stage: u32) -> Move {
-        Move::Access
-    }
-
-    #[inline(always)]
-    #[tactic(auto, using(crate::proofs::PickedFrom::accessing))]
-    fn next(core: &Core, last: Rank) -> Option<u32> {
-        if last.kind < ACCESS && core.may_access() {
-            Some(1)
-        } else {
-            None
-        }
-    }
-}
-
-impl SweptKind for LeaveKind {
-    ghost at_stage = { λ i. mv.Leave };
-
-    ghost from = { from_leave };
-
-    ghost beyond = { from_exit };
-
-    ghost onward = { from_exit };
-
-    #[inline(always)]
-    #[tactic(auto, using(crate::proofs::PickedFrom::left_on))]
-    fn at(_stage: u32) -> Move {
-        Move::Leave
-    }
-
-    #[inline(always)]
-    #[tactic(auto, using(crate::proofs::PickedFrom::leaving))]
-    fn next(core: &Core, last: Rank) -> Option<u32> {
-        if last.kind < LEAVE && core.may_leave() {
-            Some(1)
-        } else {
-            None
-        }
-    }
-}
-
-impl SweptKind for ExitKind {
-    ghost at_stage = { λ i. mv.Exit };
-
-    ghost from = { from_exit };
-
-    ghost beyond = { from_serve };
-
-    ghost onward = { from_serve };
-
-    #[inline(always)]
-    #[tactic(auto, using(crate::proofs::PickedFrom::exited_on))]
-    fn at(_stage: u32) -> Move {
-        Move::Exit
-    }
-
-    #[inline(always)]
-    #[tactic(auto, using(crate::proofs::PickedFrom::exiting))]
-    fn next(core: &Core, last: Rank) -> Option<u32> {
-        if last.kind < EXIT && core.may_exit() {
-            Some(1)
-        } else {
-            None
-        }
-    }
-}
 
 impl Candidates {
     /// The first allowed Slide after the rank.

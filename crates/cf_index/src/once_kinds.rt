@@ -1,0 +1,133 @@
+//! The kinds of moves that have one move alone, since it has no stage: Emit, Access, Leave and Exit.
+
+ghost use Rattle.std.specs.Prelude.{◌≡◌, ◌≤◌, Bool, List, Some, false, find, true};
+ghost use Rattle.run_options.specs.declared.guess_rule.GuessRule.{GuessRule};
+ghost use Rattle.cf_bind.specs.declared.moves.Move.{Move as Step};
+ghost use Rattle.cf_bind.specs.declared.moves.Move.TheVariants as mv;
+ghost use Rattle.cf_layout.specs.Layout.{Plan};
+ghost use Rattle.cf_semantics.specs.state.State.{State};
+ghost use Rattle.cf_index.specs.Order.{kind_place};
+ghost use Rattle.cf_index.specs.Words.{goes_on};
+ghost use Rattle.cf_index.specs.Ranks.{is_past, rank_of};
+ghost use Rattle.cf_index.specs.PickedFrom.{IsPickedFrom, from_access, from_climb, from_emit, from_exit, from_leave, from_recover, from_serve};
+
+use crate::rank::{ACCESS, EMIT, EXIT, LEAVE, Rank};
+use cf_bind::Move;
+use cf_core::Core;
+
+/// A kind that has one move alone: Emit, Access, Leave or Exit.
+pub trait OnceKind {
+    /// The move of this kind.
+    ghost only_move: { Step };
+
+    /// What is allowed of this kind and of those after it.
+    ghost from: { Plan → State → List Step };
+
+    /// What is allowed of the kinds after it.
+    ghost beyond: { Plan → State → List Step };
+
+    /// The move of this kind.
+    fn only() -> Move
+        ensures value { result ≡ only_move }
+        ensures after { 1 ≤ kind_place result }
+        ensures before { kind_place result ≤ 12 }
+        ensures picked { (rule : GuessRule) (held : Bool) (plan : Plan) (s : State) → plan.stages ≤ 32 → IsPickedFrom rule held plan s (Some result) (rank_of result) (beyond plan s) };
+
+    /// Whether the move is allowed and comes after the rank.
+    fn is_left(core: &Core, last: Rank) -> bool
+        requires { goes_on core.now.state ≡ true }
+        ensures here { result ≡ true → find (is_past last) (from core.now.plan core.now.state) ≡ Some only_move }
+        ensures gone { result ≡ false → find (is_past last) (beyond core.now.plan core.now.state) ≡ find (is_past last) (from core.now.plan core.now.state) };
+}
+
+/// Emit.
+pub struct EmitKind;
+
+/// Access.
+pub struct AccessKind;
+
+/// Leave.
+pub struct LeaveKind;
+
+/// Exit.
+pub struct ExitKind;
+
+impl OnceKind for EmitKind {
+    ghost only_move = { mv.Emit };
+
+    ghost from = { from_emit };
+
+    ghost beyond = { from_climb };
+
+    #[inline(always)]
+    #[tactic(auto, using(crate::proofs::PickedFrom::emitted_on))]
+    fn only() -> Move {
+        Move::Emit
+    }
+
+    #[inline(always)]
+    #[tactic(auto, using(crate::proofs::PickedFrom::emitting))]
+    fn is_left(core: &Core, last: Rank) -> bool {
+        last.kind < EMIT && core.may_emit()
+    }
+}
+
+impl OnceKind for AccessKind {
+    ghost only_move = { mv.Access };
+
+    ghost from = { from_access };
+
+    ghost beyond = { from_recover };
+
+    #[inline(always)]
+    #[tactic(auto, using(crate::proofs::PickedFrom::accessed_on))]
+    fn only() -> Move {
+        Move::Access
+    }
+
+    #[inline(always)]
+    #[tactic(auto, using(crate::proofs::PickedFrom::accessing))]
+    fn is_left(core: &Core, last: Rank) -> bool {
+        last.kind < ACCESS && core.may_access()
+    }
+}
+
+impl OnceKind for LeaveKind {
+    ghost only_move = { mv.Leave };
+
+    ghost from = { from_leave };
+
+    ghost beyond = { from_exit };
+
+    #[inline(always)]
+    #[tactic(auto, using(crate::proofs::PickedFrom::left_on))]
+    fn only() -> Move {
+        Move::Leave
+    }
+
+    #[inline(always)]
+    #[tactic(auto, using(crate::proofs::PickedFrom::leaving))]
+    fn is_left(core: &Core, last: Rank) -> bool {
+        last.kind < LEAVE && core.may_leave()
+    }
+}
+
+impl OnceKind for ExitKind {
+    ghost only_move = { mv.Exit };
+
+    ghost from = { from_exit };
+
+    ghost beyond = { from_serve };
+
+    #[inline(always)]
+    #[tactic(auto, using(crate::proofs::PickedFrom::exited_on))]
+    fn only() -> Move {
+        Move::Exit
+    }
+
+    #[inline(always)]
+    #[tactic(auto, using(crate::proofs::PickedFrom::exiting))]
+    fn is_left(core: &Core, last: Rank) -> bool {
+        last.kind < EXIT && core.may_exit()
+    }
+}
