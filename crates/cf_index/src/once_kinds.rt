@@ -11,6 +11,7 @@ ghost use Rattle.cf_index.specs.Words.{goes_on};
 ghost use Rattle.cf_index.specs.Ranks.{is_past, rank_of};
 ghost use Rattle.cf_index.specs.PickedFrom.{IsPickedFrom, from_access, from_climb, from_emit, from_exit, from_leave, from_recover, from_serve};
 
+use crate::pipe_ends::{emits, exits, leaves};
 use crate::rank::{ACCESS, EMIT, EXIT, LEAVE, Rank};
 use cf_bind::Move;
 use cf_core::Core;
@@ -68,7 +69,8 @@ impl OnceKind for EmitKind {
     #[inline(always)]
     #[tactic(auto, using(crate::proofs::PickedFrom::emitting))]
     fn is_left(core: &Core, last: Rank) -> bool {
-        last.kind < EMIT && core.may_emit()
+        let masks = core.open_masks();
+        last.kind < EMIT && emits(core, &masks)
     }
 }
 
@@ -108,7 +110,8 @@ impl OnceKind for LeaveKind {
     #[inline(always)]
     #[tactic(auto, using(crate::proofs::PickedFrom::leaving))]
     fn is_left(core: &Core, last: Rank) -> bool {
-        last.kind < LEAVE && core.may_leave()
+        let masks = core.open_masks();
+        last.kind < LEAVE && leaves(core, &masks)
     }
 }
 
@@ -128,6 +131,7 @@ impl OnceKind for ExitKind {
     #[inline(always)]
     #[tactic(auto, using(crate::proofs::PickedFrom::exiting))]
     fn is_left(core: &Core, last: Rank) -> bool {
-        last.kind < EXIT && core.may_exit()
+        let masks = core.open_masks();
+        last.kind < EXIT && exits(core, &masks)
     }
 }

@@ -33,9 +33,21 @@ pub(crate) fn emits(core: &Core, masks: &Masks) -> bool
     core.lane_len() != 0 && !has_top(core, masks.packets)
 }
 
+/// Whether Leave is allowed.
+// What the instruction of the highest stage has done is looked at only where there is one.
+#[inline(always)]
+pub(crate) fn leaves(core: &Core, masks: &Masks) -> bool
+    requires on { goes_on core.now.state ≡ true }
+    requires masks { masks.now ≡ masks_of core.now.plan core.now.state }
+    ensures { result ≡ is_allowed core.now.plan core.now.state mv.Leave }
+{
+    know_stages(core);
+    has_top(core, masks.passengers) && core.open_leave()
+}
+
 /// Whether Exit is allowed.
 #[inline(always)]
-fn exits(core: &Core, masks: &Masks) -> bool
+pub(crate) fn exits(core: &Core, masks: &Masks) -> bool
     requires on { goes_on core.now.state ≡ true }
     requires masks { masks.now ≡ masks_of core.now.plan core.now.state }
     ensures { result ≡ is_allowed core.now.plan core.now.state mv.Exit }
@@ -55,7 +67,7 @@ pub(crate) fn end_bits(core: &Core, masks: &Masks) -> u64
     know_stages(core);
     let exit = exits(core, masks);
     if has_top(core, masks.passengers) {
-        let leave = core.may_leave();
+        let leave = core.open_leave();
         let serve = core.may_serve();
         flag_then(leave, flag_then(exit, serve as u64))
     } else {

@@ -1,10 +1,11 @@
 //! Leave: the instruction of the highest stage leaves; a live one retires, or ends the program.
 
-ghost use Rattle.std.specs.Prelude.{◌≡◌, IfSome, ◌+◌, ◌<◌, ◌^◌, None};
+ghost use Rattle.std.specs.Prelude.{◌≡◌, IfSome, ◌+◌, ◌<◌, ◌^◌, ◌&&◌, None, not, true};
 ghost use Rattle.cf_bind.specs.declared.moves.Move.TheVariants as mv;
 ghost use Rattle.cf_semantics.specs.moves.Bars.{row_bar};
 ghost use Rattle.cf_semantics.specs.moves.Events.{IsEvent};
 ghost use Rattle.cf_semantics.specs.moves.Moves.{left_live};
+ghost use Rattle.cf_semantics.specs.state.Options.{is_some};
 ghost use Rattle.cf_passengers.specs.Facts.{IsBinding};
 ghost use Rattle.cf_core.specs.Ends.{written_back};
 ghost use Rattle.cf_core.specs.Marks.{row_allows};
@@ -113,5 +114,16 @@ impl Core {
     {
         let processor = &self.processor;
         processor.goes_on() && processor.leaves()
+    }
+
+    /// Whether Leave is allowed by a processor that is known to go on: the program has not ended, and neither the input nor
+    /// the output has failed. It is not tested again.
+    #[inline(always)]
+    #[tactic(auto, using(crate::proofs::moves::Allows::allowing))]
+    pub fn open_leave(&self) -> bool
+        requires { (not (is_some self.now.state.ending) && not self.now.state.failed) ≡ true }
+        ensures { result ≡ is_allowed self.now.plan self.now.state mv.Leave }
+    {
+        self.processor.leaves()
     }
 }

@@ -7,9 +7,9 @@ use Rattle.cf_index.proofs.pipe_ends.end_bits.Goals as goal
 
 pub returns-then-has_top-clause-moves : goal.returns-then-has_top-clause-moves
 returns-then-has_top-clause-moves c =
-    ap (packed_from 61 3) (c.flag_then-then-has_top.ensures ∙ ap (λ (w : ℕ). bool_byte c.may_leave-leave.result + 2 * w) c.flag_then.ensures)
-    ∙ ends_joined c.args.core.now.plan c.args.core.now.state c.may_leave-leave.result c.exits-exit.result c.may_serve-serve.result
-    c.may_leave-leave.ensures c.exits-exit.ensures c.may_serve-serve.ensures
+    ap (packed_from 61 3) (c.flag_then-then-has_top.ensures ∙ ap (λ (w : ℕ). bool_byte c.open_leave-leave.result + 2 * w) c.flag_then.ensures)
+    ∙ ends_joined c.args.core.now.plan c.args.core.now.state c.open_leave-leave.result c.exits-exit.result c.may_serve-serve.result
+    c.open_leave-leave.ensures c.exits-exit.ensures c.may_serve-serve.ensures
 
 pub returns-else-has_top-clause-moves : goal.returns-else-has_top-clause-moves
 returns-else-has_top-clause-moves c =
