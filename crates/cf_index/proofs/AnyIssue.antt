@@ -81,7 +81,3 @@ any_allowed plan s some e =
     let t = all.3 in
     let room : length s.lane + 1 < plan.lane = grind (arith, nat_tests, t) in
     any_running plan s s.fetch on_it.0 on_it.1 refl all.1 some all.2 room
-
--- the instruction of the lowest stage
-pub lowest_passenger : (cells : List Cell) (c : Cell) → Some c ≡ cell_at cells 1 → c.passenger ≡ passenger_at cells 1
-lowest_passenger cells c e = rw (← e) refl

@@ -18,6 +18,7 @@ use Rattle.cf_semantics.specs.moves.Bars.{bar, climb_bar, emit_bar, exit_bar, fa
 use Rattle.cf_semantics.specs.moves.Moves.{moved, without_packet}
 use Rattle.cf_semantics.specs.state.Options.{on, is_some}
 use Rattle.cf_semantics.specs.state.State.{State, cell_at, put_cell}
+use Rattle.cf_stages.specs.Changes.{passenger_at}
 use Rattle.cf_stages.specs.Words.{word_of}
 use Rattle.theory_refinement.proofs.moves.Rows.{bar_row}
 use Rattle.cf_stages.proofs.Bits.{word-bit, word-bit-above}
@@ -363,6 +364,16 @@ pub exit_allowed : (plan : Plan) (s : State) (m : Masks) → goes_on s ≡ true 
 exit_allowed plan s m on e same =
     let b = bits plan s m 0 e same in
     rw (full_has plan s m 0 b, b.flying, going_free plan s Exit on) (sym (exit_row (cell_at s.cells 1)))
+
+-- the word of instructions says whether the lowest stage has one
+ridden : (o : Option Cell) → riding o ≡ is_some (on o None (λ c. c.passenger))
+unfolding riding
+ridden None = refl
+ridden (Some c) = refl
+
+pub lowest_rider : (plan : Plan) (s : State) (m : Masks) → m ≡ masks_of plan s → length s.cells ≡ plan.stages →
+    has_bit m.passengers 0 ≡ is_some (passenger_at s.cells 1)
+lowest_rider plan s m e same = let b = bits plan s m 0 e same in b.riding ∙ ridden (cell_at s.cells 1)
 
 -- the highest stage is there
 top_there : (plan : Plan) (s : State) → length s.cells ≡ plan.stages → 1 ≤ plan.stages → is_some (cell_at s.cells plan.stages) ≡ true

@@ -237,7 +237,3 @@ pub issue_none : (rule : GuessRule) (held : Bool) (plan : Plan) (s : State) (las
     IsPickedFrom rule held plan s (Some last) first_rank (from_emit plan s)
 issue_none rule held plan s last o few free first is some over =
     restarted rule held plan s last few (none_offered rule plan s held o free first is) some over
-
-pub issue_held : (rule : GuessRule) (held : Bool) (plan : Plan) (s : State) (last : Move) → plan.stages ≤ 32 → held ≡ true → 1 ≤ kind_place last →
-    IsLast plan s (Some last) → IsPickedFrom rule held plan s (Some last) first_rank (from_emit plan s)
-issue_held rule held plan s last few is some over = restarted rule held plan s last few (none_held rule plan s held is) some over

@@ -10,6 +10,7 @@ ghost use Rattle.cf_index.specs.GuessRules.{guess_at, guess_back, guess_of, is_g
 ghost use Rattle.run_options.specs.declared.guess_rule.GuessRule.TheVariants as rules;
 
 use crate::plainly::issues_any;
+use crate::stages::goes_on;
 use cf_bind::{Fetch, Guess};
 use cf_core::{Core, Issuable};
 use cf_passengers::fetched;
@@ -210,7 +211,7 @@ pub(crate) fn guided_by_kind(core: &Core, rule: GuessRule) -> Issuable
     ensures taken { result.taken ≡ may_issue rule core.now.plan core.now.state guess.Taken }
     ensures wait { result.wait ≡ may_issue rule core.now.plan core.now.state guess.Wait }
 {
-    if is_any(rule) && issues_any(core) {
+    if is_any(rule) && issues_any(core, goes_on(core)) {
         issuable_by_kind(core)
     } else {
         guided(core, rule)

@@ -1,12 +1,13 @@
 //! Whether the search after a move starts over, with no Issue offered.
 
-ghost use Rattle.std.specs.Prelude.{◌≡◌, ◌≢◌, ◌≤◌, ◌++◌, [], IfSome, None, Some, filter, find, true};
+ghost use Rattle.std.specs.Prelude.{◌≡◌, ◌≢◌, ◌≤◌, ◌++◌, [], IfSome, None, Some, false, filter, find, true};
 ghost use Rattle.run_options.specs.declared.guess_rule.GuessRule.{GuessRule as Rule};
 ghost use Rattle.cf_bind.specs.declared.moves.Move.{Move as Step};
 ghost use Rattle.cf_index.specs.Allowed.{all_passing, is_allowed, unheld_issues};
 ghost use Rattle.cf_index.specs.Order.{kind_place, slide_place};
 ghost use Rattle.cf_index.specs.PickedFrom.{IsLast, IsPicked, IsPickedFrom, from_emit, outward_on};
 ghost use Rattle.cf_index.specs.Ranks.{first_rank, is_past, rank_of};
+ghost use Rattle.cf_index.specs.Words.{goes_on};
 
 use crate::candidates::Candidates;
 use crate::plainly::{is_lowest_free, is_running};
@@ -22,7 +23,8 @@ use run_options::GuessRule;
 #[inline(always)]
 #[tactic(auto, using(crate::proofs::StartsOver::issuing_none))]
 fn issues_none(core: &Core, held: bool) -> bool
-    ensures { (rule : Rule) → result ≡ true → unheld_issues held rule core.now.plan core.now.state ≡ [] }
+    ensures none { (rule : Rule) → result ≡ true → unheld_issues held rule core.now.plan core.now.state ≡ [] }
+    ensures unheld { result ≡ false → held ≡ false }
 {
     if held {
         return true;
@@ -64,6 +66,7 @@ impl Candidates {
     /// search starts over with the first of all allowed moves but Issue.
     #[inline(always)]
     pub fn next_issue(core: &Core, rule: GuessRule, held: bool) -> Option<Move>
+        requires { goes_on core.now.state ≡ true }
         ensures issue { IfSome result (λ next. kind_place next ≡ 0) }
         ensures picked { (last : Step) → 1 ≤ kind_place last → IsLast core.now.plan core.now.state (Some last) →
             IfSome result (λ next. IsPicked rule held core.now.plan core.now.state (Some last) next) }
@@ -71,10 +74,10 @@ impl Candidates {
             IsPickedFrom rule held core.now.plan core.now.state (Some last) first_rank (from_emit core.now.plan core.now.state) }
     {
         know_stages(core);
-        if held {
+        if issues_none(core, held) {
             None
         } else {
-            Candidates::first_issue(core, rule)
+            Candidates::first_issue_if(core, rule, true)
         }
     }
 }

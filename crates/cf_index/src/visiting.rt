@@ -10,6 +10,7 @@ ghost use Rattle.cf_index.specs.Listed.{entering_moves, flagged, leaving_moves, 
 ghost use Rattle.cf_index.specs.Most.{most_leaving, most_of_kind, most_others, most_passing};
 ghost use Rattle.cf_index.specs.Places.{set_places};
 ghost use Rattle.cf_index.specs.Spread.{numbered};
+ghost use Rattle.cf_index.specs.Words.{goes_on as is_going};
 
 use crate::bits::count;
 use crate::candidates::Candidates;
@@ -19,6 +20,7 @@ use crate::guiding::{guided, own_guess};
 use crate::leaving::Leaving;
 use crate::passing::Passing;
 use crate::plainly::issues_any;
+use crate::stages::goes_on;
 use cf_bind::{Guess, Move};
 use cf_core::{Core, Masks};
 use run_options::GuessRule;
@@ -209,14 +211,15 @@ impl Candidates {
         visit_leaving(core, &masks, visitor);
     }
 
-    /// The first of the allowed Issues that the guess rule keeps. If an instruction can be issued, whatever it is, the
-    /// rule's own guess can be made, and an instruction is decoded for that guess alone.
+    /// The first of the allowed Issues that the guess rule keeps, given whether the processor goes on. If an instruction
+    /// can be issued, whatever it is, the rule's own guess can be made, and an instruction is decoded for that guess alone.
     #[inline(always)]
     #[tactic(auto, using(crate::proofs::Others::issues, crate::proofs::Guided::own_first))]
-    pub fn first_issue(core: &Core, rule: GuessRule) -> Option<Move>
+    pub(crate) fn first_issue_if(core: &Core, rule: GuessRule, on: bool) -> Option<Move>
+        requires { on ≡ is_going core.now.state }
         ensures { result ≡ slice_get (kept_issues rule core.now.plan core.now.state) 0 }
     {
-        if issues_any(core) {
+        if issues_any(core, on) {
             return Some(Move::Issue(own_guess(core, rule)));
         }
         let issuable = guided(core, rule);
@@ -229,5 +232,13 @@ impl Candidates {
         } else {
             None
         }
+    }
+
+    /// The first of the allowed Issues that the guess rule keeps.
+    #[inline(always)]
+    pub fn first_issue(core: &Core, rule: GuessRule) -> Option<Move>
+        ensures { result ≡ slice_get (kept_issues rule core.now.plan core.now.state) 0 }
+    {
+        Candidates::first_issue_if(core, rule, goes_on(core))
     }
 }

@@ -1,6 +1,6 @@
 //! A round of the rule: a sweep over the stages, then the moves by which something leaves, and then an Issue, or again
 //! whichever move comes first.
-#![tactic(auto, using(crate::proofs::Turning::no_turns, crate::proofs::Turning::sweeps_on))]
+#![tactic(auto, using(crate::proofs::Turning::goes_on_so, crate::proofs::Turning::no_turns, crate::proofs::Turning::sweeps_on))]
 
 ghost use Rattle.std.specs.Prelude.{◌≡◌, ◌<◌, ◌≤◌, ◌+◌, IfSome, Some};
 ghost use Rattle.cf_index.specs.Order.{kind_place};
