@@ -1,4 +1,4 @@
-use Rattle.std.proofs.Common.{◌≤◌, arith}
+use Rattle.std.proofs.Common.{◌≤◌}
 use Rattle.cf_index.proofs.StartsOver.{started}
 use Rattle.cf_index.proofs.candidates.Candidates.starts_over.Goals as goal
 
