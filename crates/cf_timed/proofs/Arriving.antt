@@ -14,12 +14,12 @@ use Rattle.cf_timed.specs.declared.timed_move.TimedMove.{TimedMove}
 use Rattle.cf_timed.specs.Delays.{AreDelays}
 use Rattle.cf_timed.specs.DelayedRuns.{DelayRule, delay_at, delayed_at, timed_after, visits_of}
 use Rattle.cf_timed.specs.Times.{delayed, done_after, done_at, greatest_time}
-use Rattle.cf_timed.specs.Clocks.{SiteTimes, capped, clocked, stamped}
+use Rattle.cf_timed.specs.Clocks.{AreKept, SiteTimes, capped, clocked, stamped}
 use Rattle.cf_timed.specs.Earliest.{AreEarliest, TimedTurn, earliest, first_least, time_in, after_turn}
 use Rattle.cf_timed.specs.Turns.{timed_by}
 use Rattle.cf_timed.specs.Watching.{watched, watched_text}
 use Rattle.cf_timed.proofs.Delaying.{all_time, time_few}
-use Rattle.cf_timed.proofs.Following.{AreKept, Follows, delay_follows, finish_follows, follows_more}
+use Rattle.cf_timed.proofs.Following.{Follows, delay_follows, finish_follows, follows_more}
 use Rattle.cf_timed.proofs.Leasts.{least-same}
 use Rattle.cf_timed.proofs.Room.{offered_kept}
 

@@ -36,6 +36,12 @@ ticks_few span (Some word) (low, between, high) =
     rest : (a b : ℕ) → a % (b + 1) ≤ b
     rest a b = grind arith
 
+-- and there is at least one
+pub ticks_some : (span : Span) (word : Option ℕ) → IsSpan span → 1 ≤ ticks_in span word
+unfolding ticks_in
+ticks_some span None (low, between, high) = omega (arith, low)
+ticks_some span (Some word) (low, between, high) = omega (arith, low)
+
 pub delay_few : (rule : DelayRule) (s : State) (moves : List TimedMove) (mv : Move) → AreDelays rule.spans → delay_at rule s moves mv ≤ 1000
 unfolding delay_at
 delay_few rule s moves mv h = ticks_few (span_of rule.spans mv (class_of_move s mv)) (word_of_move rule.seed moves mv)

@@ -23,8 +23,8 @@ use Rattle.cf_timed.specs.declared.timed_move.TimedMove.{TimedMove}
 use Rattle.cf_timed.specs.Delays.{AreDelays}
 use Rattle.cf_timed.specs.DelayedRuns.{DelayRule, Visit, delayed_at, delays_after, visits_of}
 use Rattle.cf_timed.specs.Times.{done_after}
+use Rattle.cf_timed.specs.Clocks.{AreKept}
 use Rattle.cf_timed.proofs.Delaying.{delay_few}
-use Rattle.cf_timed.proofs.Following.{AreKept}
 use Rattle.cf_timed.proofs.Room.{offered_kept, one_of_all}
 
 -- in a run at most as many instructions retire as the limit allows

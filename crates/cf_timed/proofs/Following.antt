@@ -19,30 +19,10 @@ use Rattle.cf_timed.specs.DelayedRuns.{DelayRule, Visit, class_of_move, delay_at
 use Rattle.cf_timed.specs.Drawing.{after_word, drawn_from, stream_count, stream_of, ticks_in}
 use Rattle.cf_timed.specs.Numbers.{number_at}
 use Rattle.cf_timed.specs.Times.{DelayedMove, done_at, done_after, greatest, greatest_time, finish_after}
-use Rattle.cf_timed.specs.Clocks.{SiteTimes, ClockKnows, allowed, clocked, delay_by, drawing, finish_time, made, made_all, put_time, put_times, siding_row, rule_of_clock, stamped, started, time_at}
+use Rattle.cf_timed.specs.Clocks.{AreKept, ClockKnows, HasRoom, IsKept, SiteTimes, allowed, clocked, delay_by, drawing, finish_time, made, made_all, put_time, put_times, siding_row, rule_of_clock, stamped, started, time_at}
 use Rattle.cf_timed.proofs.Drawn.{HasDrawn, drawn_start, number_put, word_drawn, word_taken}
 use Rattle.cf_timed.proofs.SiteTimes.{at_start, put_delays, put_draws, put_latest, put_same, same_drawn, same_times}
 use Rattle.cf_timed.proofs.Greatest.{greatest_where, where_any, where_more, where_none}
-
--- a site for which the clock has room
-abbrev pub IsKept : Site → Type 0
-IsKept (Stage i) = i < 34
-IsKept (SidingCell k c) = (k < 8) × (c < 8)
-IsKept Lane = Unit {0}
-IsKept Fetching = Unit {0}
-IsKept Memory = Unit {0}
-IsKept Code = Unit {0}
-IsKept _ = ⊥
-
--- it has room for each site that the move uses
-abbrev pub AreKept : Plan → Move → Type 0
-AreKept plan mv = AllByRecursion IsKept (used plan mv)
-
--- the room of the clock
-pub record HasRoom (c : SiteTimes) : Type 0 where
-  pub stages : length c.stages ≡ 34
-  pub sidings : length c.cells ≡ 8
-  pub cells : (k : ℕ) → k < 8 → length (siding_row c.cells k) ≡ 8
 
 -- the maximum time of the moves that use the site
 abbrev pub last_at : Plan → List TimedMove → Site → ℕ

@@ -1,6 +1,6 @@
 -- The first of the moves that have the least time.
 use Rattle.std.proofs.Common.{◌≡◌, refl, sym, ℕ, zero, suc, ◌+◌, ◌<◌, ◌≤◌, List, [], ◌∷◌, ◌++◌, length, get_or, Bool, true, false, arith}
-use Rattle.std.specs.Prelude.{nat_le}
+use Rattle.std.specs.Prelude.{Some, nat_le, slice_get}
 use Rattle.std.specs.List.{AllByRecursion, list_all, position_or_len}
 use Rattle.std.proofs.lemmas.Bool.Decides.{nat_tests}
 use Rattle.std.proofs.lemmas.List.Folds.{list_all_at}
@@ -14,6 +14,13 @@ pub record IsLeast (time : Move → ℕ) (moves : List Move) (place least : ℕ)
   pub is : (d : Move) → time (get_or moves place d) ≤ least
   pub most : (k : ℕ) (d : Move) → k < length moves → least ≤ time (get_or moves k d)
   pub first : (k : ℕ) (d : Move) → k < place → least < time (get_or moves k d)
+
+-- the move is the first of some moves that have the least time
+pub record IsFirst (time : Move → ℕ) (moves : List Move) (least : ℕ) (mv : Move) : Type 0 where
+  pub place : ℕ
+  pub is_least : IsLeast time moves place least
+  pub there : slice_get moves place ≡ Some mv
+  pub is : time mv ≡ least
 
 -- it is the first of those with the least time
 pub least-of_all : (time : Move → ℕ) (moves : List Move) (place least : ℕ) (d : Move) → IsLeast time moves place least → place ≡ first_least time moves
@@ -34,7 +41,7 @@ least-of_all time moves place least d h =
         grind (arith, nat_tests, m, i))
 
 -- it still is after a move that is later
-after_one : (time : Move → ℕ) (x : Move) (moves : List Move) (place least : ℕ) → least < time x → IsLeast time moves place least →
+pub after_one : (time : Move → ℕ) (x : Move) (moves : List Move) (place least : ℕ) → least < time x → IsLeast time moves place least →
     IsLeast time (x ∷ moves) (suc place) least
 after_one time x moves place least later h = record {
   within = let w = h.within in omega (arith, w);

@@ -20,3 +20,8 @@ pub mod Exchanging
 pub mod Few
 pub mod Watched
 pub mod Shown
+pub mod Untouched
+pub mod Stamped
+pub mod KeptLists
+pub mod DueMoves
+pub mod Looked

@@ -22,15 +22,15 @@ use Rattle.cf_semantics.specs.state.State.{State}
 use Rattle.cf_semantics.specs.claims.Weight.{is_issue}
 use Rattle.cf_index.specs.Sites.{sidings_where, way_in, way_out, ways_in, ways_out}
 use Rattle.cf_index.proofs.SiteWords.{siding_within}
-use Rattle.cf_timed.proofs.Following.{AreKept, IsKept}
+use Rattle.cf_timed.specs.Clocks.{AreKept, IsKept}
 
 -- what holds of the elements of two lists holds of those of both together
-all_both : {X : Type 0} (P : X → Type 0) (xs ys : List X) → AllByRecursion P xs → AllByRecursion P ys → AllByRecursion P (xs ++ ys)
+pub all_both : {X : Type 0} (P : X → Type 0) (xs ys : List X) → AllByRecursion P xs → AllByRecursion P ys → AllByRecursion P (xs ++ ys)
 all_both P [] ys h g = g
 all_both P (x ∷ xs) ys h g = (h.0, all_both P xs ys h.1 g)
 
 -- and of those that pass a test
-all_passed : {X : Type 0} (P : X → Type 0) (test : X → Bool) (xs : List X) → AllByRecursion P xs → AllByRecursion P (filter test xs)
+pub all_passed : {X : Type 0} (P : X → Type 0) (test : X → Bool) (xs : List X) → AllByRecursion P xs → AllByRecursion P (filter test xs)
 all_passed P test [] h = tt
 all_passed P test (x ∷ xs) h = by (test x) (all_passed P test xs h.1)
   where
@@ -98,7 +98,7 @@ slides_kept plan k (siding ∷ sidings) few each =
     (all_counted (AreKept plan) (Slide k) 0 (siding.cells - 1) (λ c low high. ((omega arith, omega (arith, s)), ((omega arith, omega (arith, s)), tt))))
     (slides_kept plan (suc k) sidings (omega (arith, few)) (λ i d within. each (suc i) d (omega (arith, within))))
 
-all_moves_kept : (plan : Plan) → IsAccepted plan → AllByRecursion (AreKept plan) (all_moves plan)
+pub all_moves_kept : (plan : Plan) → IsAccepted plan → AllByRecursion (AreKept plan) (all_moves plan)
 unfolding all_moves
 all_moves_kept plan a =
     let s = a.stages.1 in

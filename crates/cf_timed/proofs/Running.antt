@@ -33,12 +33,12 @@ use Rattle.cf_timed.specs.DelayedRuns.{DelayRule, delayed_at, timed_visits, visi
 use Rattle.cf_timed.specs.declared.step.TimedStep.{TimedStep}
 use Rattle.cf_semantics.specs.declared.event.Event.{Event}
 use Rattle.cf_timed.specs.Times.{done_after, greatest_time}
-use Rattle.cf_timed.specs.Clocks.{SiteTimes, ClockKnows, capped, clocked, stamped, started}
+use Rattle.cf_timed.specs.Clocks.{AreKept, ClockKnows, SiteTimes, capped, clocked, stamped, started}
 use Rattle.cf_timed.specs.Earliest.{AreEarliest, TimedTurn, earliest, first_least, after_turn}
 use Rattle.cf_timed.specs.TimedRuns.{CanRunTimed, RunsTimed, answer_of_timed, begins, timed_start}
 use Rattle.cf_timed.specs.Turns.{MakesEarliest, StopsEarliest, made_as, pick_by, timed_by}
 use Rattle.cf_timed.proofs.Arriving.{SoFar, pick-is, picks-longer, so-far-more, timed-is, timed-there, tried-last}
-use Rattle.cf_timed.proofs.Following.{AreKept, follows_start, follows_tells}
+use Rattle.cf_timed.proofs.Following.{follows_start, follows_tells}
 use Rattle.cf_timed.proofs.Room.{offered_kept, one_of_all}
 
 -- the picks so far lead from one place to another, and the clock has recorded what was made

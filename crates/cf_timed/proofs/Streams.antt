@@ -11,7 +11,7 @@ use Rattle.cf_index.specs.Order.{kind_place}
 use Rattle.cf_index.specs.Sites.{shares, uses_place, way_out}
 use Rattle.cf_index.proofs.SharedSites.{shared_at}
 use Rattle.cf_timed.specs.Drawing.{seat_of, stream_of}
-use Rattle.cf_timed.proofs.Following.{AreKept}
+use Rattle.cf_timed.specs.Clocks.{AreKept}
 
 -- a site that each move of a kind uses, by the number of its stage or cell
 abbrev site_at : Plan → (kind seat : ℕ) → Site

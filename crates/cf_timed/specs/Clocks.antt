@@ -1,5 +1,6 @@
 -- A clock: for each site of a processor the time of the last move that used it.
-use Rattle.std.specs.Prelude.{◌≡◌, ◌≤◌, ℕ, ◌+◌, List, [], ◌∷◌, map, max, min, ◌-◌, ◌^◌, replicate, slice_get, slice_set, unwrap_or}
+use Rattle.std.specs.Prelude.{◌≡◌, ◌<◌, ◌≤◌, ℕ, ◌+◌, List, [], ◌∷◌, map, max, min, ◌-◌, ◌^◌, length, replicate, slice_get, slice_set, unwrap_or}
+use Rattle.std.specs.List.{AllByRecursion}
 use Rattle.cf_layout.specs.Layout.{Plan}
 use Rattle.cf_bind.specs.declared.moves.Move.{Move}
 use Rattle.cf_semantics.specs.moves.Sites.{Site, Stage, SidingCell, Lane, Fetching, Memory, Code}
@@ -76,6 +77,31 @@ abbrev pub put_times : SiteTimes → ℕ → List Site → SiteTimes
 put_times c t [] = c
 put_times c t (x ∷ xs) = put_times (put_time c t x) t xs
 
+-- the clock keeps the time of this site, if the layout has it
+abbrev pub IsKept : Site → Type 0
+IsKept (Stage i) = i < 34
+IsKept (SidingCell k c) = (k < 8) × (c < 8)
+IsKept Lane = Unit {0}
+IsKept Fetching = Unit {0}
+IsKept Memory = Unit {0}
+IsKept Code = Unit {0}
+IsKept _ = ⊥
+
+-- and that of each site that the move uses
+abbrev pub AreKept : Plan → Move → Type 0
+AreKept plan mv = AllByRecursion IsKept (used plan mv)
+
+-- as many times as a clock keeps
+pub record HasRoom (c : SiteTimes) : Type 0 where
+  pub stages : length c.stages ≡ 34
+  pub sidings : length c.cells ≡ 8
+  pub cells : (k : ℕ) → k < 8 → length (siding_row c.cells k) ≡ 8
+
+-- the clock is one of this layout
+pub record IsClockOf (plan : Plan) (c : SiteTimes) : Type 0 where
+  pub plan_is : c.plan ≡ plan
+  pub room : HasRoom c
+
 -- a clock, and the state of the processor that it is at
 pub record ClockedState : Type 0 where
   pub clock : SiteTimes
@@ -93,9 +119,13 @@ delay_by c mv = ticks_in (span_of c.clock.delays mv (class_of_move c.state mv)) 
 abbrev pub rule_of_clock : SiteTimes → DelayRule
 rule_of_clock c = record { spans = c.delays; seed = c.draws.seed }
 
--- when it finishes: at the maximum time of the sites that it uses, plus its delay
+-- when it begins: at the maximum time of the sites that it uses
+abbrev pub begin_time : SiteTimes → Move → ℕ
+begin_time c mv = greatest (map (time_at c) (used c.plan mv))
+
+-- when it finishes: at that time, plus its delay
 unfoldable pub finish_time : ClockedState → Move → ℕ
-finish_time c mv = greatest (map (time_at c.clock) (used c.clock.plan mv)) + delay_by c mv
+finish_time c mv = begin_time c.clock mv + delay_by c mv
 
 -- the same, capped at the maximum number of 64 bits
 abbrev pub capped : ClockedState → Move → ℕ

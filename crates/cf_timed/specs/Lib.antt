@@ -10,6 +10,7 @@ pub mod Clocks
 pub mod Earliest
 pub mod Seeking
 pub mod Soonest
+pub mod DueMoves
 pub mod MoveLines
 pub mod Watching
 pub mod TimedRuns

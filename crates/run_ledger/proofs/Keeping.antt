@@ -12,8 +12,9 @@ use Rattle.cf_index.specs.Sites.{shares, used, uses_place}
 use Rattle.cf_timed.specs.Chains.{sum_of_delays}
 use Rattle.cf_timed.specs.declared.timed_move.TimedMove.{TimedMove}
 use Rattle.cf_timed.specs.Times.{DelayedMove, done_after, greatest_time, finish_after, moves_with_times}
+use Rattle.cf_timed.specs.Clocks.{AreKept, IsKept}
 use Rattle.cf_timed.proofs.Chaining.{always}
-use Rattle.cf_timed.proofs.Following.{AreKept, IsKept, no_later}
+use Rattle.cf_timed.proofs.Following.{no_later}
 use Rattle.cf_timed.proofs.Greatest.{greatest_where}
 use Rattle.cf_timed.proofs.Delaying.{kept_time}
 use Rattle.run_ledger.specs.Breakdowns.{busy, chain_to, is_last, kind_counts, leads_to, longest_chain, of_kind}

@@ -5,11 +5,11 @@ use Rattle.std.specs.Prelude.{slice_set, ◌&&◌, ◌||◌}
 use Rattle.std.specs.List.{AllByRecursion}
 use Rattle.std.proofs.lemmas.Bool.Decides.{nat_tests}
 use Rattle.cf_semantics.specs.moves.Sites.{Site, Stage, SidingCell, Lane, Fetching, Memory, Code, among, same_site}
-use Rattle.cf_timed.proofs.Following.{IsKept}
 use Rattle.cf_timed.proofs.Numbered.{set_length}
 use Rattle.run_ledger.specs.Ledgers.{chain_mark_at, place_number, put_marks, with_marks}
 use Rattle.run_ledger.specs.declared.ledger.Ledger.{Ledger}
 use Rattle.run_ledger.specs.declared.mark.ChainMark.{ChainMark}
+use Rattle.cf_timed.specs.Clocks.{IsKept}
 
 -- sites have different numbers
 same_number : (x y : Site) → IsKept x → IsKept y → nat_eq (place_number x) (place_number y) ≡ same_site x y

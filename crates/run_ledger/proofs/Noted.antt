@@ -13,7 +13,7 @@ use Rattle.cf_run.specs.Made.{Made}
 use Rattle.cf_run.specs.Policies.{fresh_chooser}
 use Rattle.cf_timed.specs.declared.answer.Timed.{Timed}
 use Rattle.cf_timed.specs.declared.timed_move.TimedMove.{TimedMove}
-use Rattle.cf_timed.specs.Clocks.{SiteTimes}
+use Rattle.cf_timed.specs.Clocks.{AreKept, SiteTimes}
 use Rattle.cf_timed.specs.Delays.{AreDelays}
 use Rattle.cf_timed.specs.DelayedRuns.{DelayRule, delayed_at, delays_after, visits_of}
 use Rattle.cf_timed.specs.Earliest.{TimedTurn, after_turn}
@@ -23,7 +23,6 @@ use Rattle.cf_timed.specs.Watching.{watched}
 use Rattle.cf_timed.proofs.Delaying.{all_time}
 use Rattle.cf_timed.proofs.Numbered.{numbered_length}
 use Rattle.cf_timed.proofs.Few.{delays-length, delays-short, moves-few, moves-kept}
-use Rattle.cf_timed.proofs.Following.{AreKept}
 use Rattle.run_ledger.specs.Breakdowns.{breakdown}
 use Rattle.run_ledger.specs.ClassCounts.{latencies_noted, no_latencies}
 use Rattle.run_ledger.specs.GapCounts.{empty_until, gaps_at, gaps_noted, no_gaps, waiting_until, with_gap}

@@ -13,7 +13,7 @@ use Rattle.cf_semantics.specs.moves.Candidates.{counted_from}
 use Rattle.cf_semantics.specs.state.Options.{on}
 use Rattle.cf_timed.specs.Numbers.{number_at}
 use Rattle.cf_timed.specs.declared.timed_move.TimedMove.{TimedMove}
-use Rattle.cf_timed.proofs.Following.{AreKept}
+use Rattle.cf_timed.specs.Clocks.{AreKept}
 use Rattle.cf_timed.proofs.Numbered.{numbered_at, set_length}
 use Rattle.run_ledger.specs.ClassCounts.{entered, issues_after, latencies_noted, no_latencies, passage_noted}
 use Rattle.run_ledger.specs.Latencies.{Passage, brought, class_retired, issue_started, of_class, passage_of, passages_after, total_ticks}
