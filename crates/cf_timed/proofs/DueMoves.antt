@@ -1,6 +1,6 @@
 -- The moves that are due go on being right: after a move that finished at their time, those that share no site with it
 -- are left, and no other move has become due.
-use Rattle.std.proofs.Common.{◌≡◌, ◌∙◌, refl, sym, ap, subst, ℕ, zero, suc, ◌+◌, ◌-◌, ◌^◌, ◌<◌, ◌≤◌, List, [], ◌∷◌, ◌++◌, drop, length, get_or, min, Some, None, Bool, true, false, cond, nat_eq, nat_lt, arith}
+use Rattle.std.proofs.Common.{◌≡◌, ◌∙◌, refl, sym, ap, subst, ℕ, zero, suc, ◌-◌, ◌^◌, ◌<◌, ◌≤◌, List, [], ◌∷◌, ◌++◌, drop, length, get_or, Some, None, Bool, true, false, cond, nat_eq, nat_lt, arith}
 use Rattle.std.specs.Prelude.{◌&&◌, filter, not, slice_get}
 use Rattle.std.specs.List.{AllByRecursion}
 use Rattle.std.proofs.lemmas.Bool.Decides.{nat_tests}
@@ -9,7 +9,7 @@ use Rattle.cf_layout.specs.Layout.{Plan}
 use Rattle.cf_layout.specs.Accepted.{IsAccepted}
 use Rattle.cf_bind.specs.declared.moves.Move.{Move}
 use Rattle.cf_semantics.specs.moves.Bars.{bar}
-use Rattle.cf_semantics.specs.moves.Candidates.{all_moves, candidates, other_moves}
+use Rattle.cf_semantics.specs.moves.Candidates.{all_moves, candidates}
 use Rattle.cf_semantics.specs.moves.Moves.{next}
 use Rattle.cf_semantics.specs.claims.Weight.{is_issue}
 use Rattle.cf_semantics.specs.state.State.{Moment, State}
@@ -21,13 +21,13 @@ use Rattle.cf_index.proofs.Independence.{unshared_back}
 use Rattle.cf_timed.specs.Clocks.{AreKept, ClockedState, IsClockOf, SiteTimes, allowed, begin_time, capped, clocked, delay_by, finish_time, stamped}
 use Rattle.cf_timed.specs.Delays.{AreDelays, span_of}
 use Rattle.cf_timed.specs.DelayedRuns.{class_of_move}
-use Rattle.cf_timed.specs.Drawing.{next_word, stream_of, ticks_in}
+use Rattle.cf_timed.specs.Drawing.{next_word, stream_of}
 use Rattle.cf_timed.specs.DueMoves.{AreDue, KeptMoves, finishing, is_serve, kept_after, none_kept, still_due, without_first}
 use Rattle.cf_timed.proofs.Delaying.{is_span, ticks_some}
-use Rattle.cf_timed.proofs.Leasts.{IsFirst, IsLeast, after_one}
+use Rattle.cf_timed.proofs.Leasts.{IsFirst, after_one}
 use Rattle.cf_timed.proofs.Room.{all_moves_kept, all_passed}
 use Rattle.cf_timed.proofs.SiteTimes.{put_delays}
-use Rattle.cf_timed.proofs.Stamped.{begins_later, begins_same, delay_same, plan_stamped}
+use Rattle.cf_timed.proofs.Stamped.{begins_later, begins_same, delay_same}
 use Rattle.cf_timed.proofs.Untouched.{allowed_stays, alone_ends, class_stays}
 
 -- one test after another, and two tests that agree

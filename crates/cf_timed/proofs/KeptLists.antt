@@ -1,15 +1,15 @@
 -- Moves kept in a list of fixed length.
-use Rattle.std.proofs.Common.{◌≡◌, ◌∙◌, refl, sym, ap, ℕ, zero, suc, ◌+◌, ◌<◌, ◌≤◌, List, [], ◌∷◌, ◌++◌, drop, length, take, Some, None, arith}
+use Rattle.std.proofs.Common.{◌≡◌, refl, sym, ap, ℕ, zero, suc, ◌+◌, ◌<◌, ◌≤◌, List, [], ◌∷◌, ◌++◌, drop, length, take, arith}
 use Rattle.std.specs.Prelude.{slice_get, slice_set}
 use Rattle.cf_bind.specs.declared.moves.Move.{Move}
 
 -- the first of those from one index up to another
 pub kept_first : (moves : List Move) (n count : ℕ) → n < count → slice_get moves n ≡ slice_get (drop n (take count moves)) 0
-kept_first [] zero count before = absurd_or count before
+kept_first [] zero count before = past count before
   where
-    absurd_or : (count : ℕ) → 0 < count → slice_get {X = Move} [] 0 ≡ slice_get (take {A = Move} count []) 0
-    absurd_or zero before = refl
-    absurd_or (suc count) before = refl
+    past : (count : ℕ) → 0 < count → slice_get {X = Move} [] 0 ≡ slice_get (take {A = Move} count []) 0
+    past zero before = refl
+    past (suc count) before = refl
 kept_first [] (suc n) zero before = refl
 kept_first [] (suc n) (suc count) before = refl
 kept_first (x ∷ moves) n zero before = absurd (omega arith)
@@ -49,7 +49,11 @@ kept_more (x ∷ moves) (suc count) (suc most) mv within few =
     let e : suc count + 1 ≡ suc (count + 1) = omega arith in
     rw e (ap (λ (l : List Move). x ∷ l) (kept_more moves count most mv (omega (arith, within)) (omega (arith, few))))
 
-pub kept_full : (moves : List Move) (most : ℕ) (mv : Move) → most ≤ length moves → take most (take most moves ++ mv ∷ []) ≡ take most moves
-kept_full moves zero mv within = refl
-kept_full [] (suc most) mv within = absurd (omega arith)
-kept_full (x ∷ moves) (suc most) mv within = ap (λ (l : List Move). x ∷ l) (kept_full moves most mv (omega (arith, within)))
+all_full : (moves : List Move) (most : ℕ) (mv : Move) → most ≤ length moves → take most (take most moves ++ mv ∷ []) ≡ take most moves
+all_full moves zero mv within = refl
+all_full [] (suc most) mv within = absurd (omega arith)
+all_full (x ∷ moves) (suc most) mv within = ap (λ (l : List Move). x ∷ l) (all_full moves most mv (omega (arith, within)))
+
+pub kept_full : (moves : List Move) (count most : ℕ) (mv : Move) → most ≤ count → count ≤ most → most ≤ length moves →
+    take count moves ≡ take most (take count moves ++ mv ∷ [])
+kept_full moves count most mv full within room = let e : count ≡ most = omega (arith, full, within) in rw e (sym (all_full moves most mv room))

@@ -25,3 +25,4 @@ pub mod Stamped
 pub mod KeptLists
 pub mod DueMoves
 pub mod Looked
+pub mod DueTurns

@@ -9,7 +9,7 @@ use Rattle.cf_layout.specs.Layout.{Plan}
 use Rattle.cf_layout.specs.Accepted.{IsAccepted}
 use Rattle.cf_bind.specs.declared.moves.Move.{Move}
 use Rattle.cf_index.specs.Allowed.{allowed_others}
-use Rattle.cf_timed.specs.Clocks.{AreKept, ClockedState, begin_time, capped, clocked, delay_by, finish_time}
+use Rattle.cf_timed.specs.Clocks.{AreKept, ClockedState, begin_time, capped, finish_time}
 use Rattle.cf_timed.specs.Delays.{AreDelays}
 use Rattle.cf_timed.specs.DueMoves.{AreDue, KeptMoves, Look, finishing, first_look, kept_below, kept_with, looked, most_kept, still_due}
 use Rattle.cf_timed.proofs.DueMoves.{delay_some, others_kept}

@@ -33,7 +33,7 @@ use Rattle.cf_timed.specs.DelayedRuns.{DelayRule, delayed_at, timed_visits, visi
 use Rattle.cf_timed.specs.declared.step.TimedStep.{TimedStep}
 use Rattle.cf_semantics.specs.declared.event.Event.{Event}
 use Rattle.cf_timed.specs.Times.{done_after, greatest_time}
-use Rattle.cf_timed.specs.Clocks.{AreKept, ClockKnows, SiteTimes, capped, clocked, stamped, started}
+use Rattle.cf_timed.specs.Clocks.{AreKept, ClockKnows, IsClockOf, SiteTimes, capped, clocked, stamped, started}
 use Rattle.cf_timed.specs.Earliest.{AreEarliest, TimedTurn, earliest, first_least, after_turn}
 use Rattle.cf_timed.specs.TimedRuns.{CanRunTimed, RunsTimed, answer_of_timed, begins, timed_start}
 use Rattle.cf_timed.specs.Turns.{MakesEarliest, StopsEarliest, made_as, pick_by, timed_by}
@@ -163,6 +163,12 @@ picks-earliest r rule limit begin now clock held b c within =
     ∙ ap (λ (p : Plan). first_least (capped (clocked clock c.turn.state)) (offered_by r p held c.turn.state)) (same-plan limit begin now c.reached)
     ∙ pick-is r begin.core.plan rule c.turn clock held b.accepted b.delays c.so_far.follows
     (timed-early r rule limit begin now clock held b c within) c.held_is
+
+-- the clock is one of the layout
+pub timed-clock : (r : GuessRule) (rule : DelayRule) (limit : ℕ) (begin now : RunPlace) (clock : SiteTimes) (held : ℕ) →
+    ComesTimed r rule limit begin now clock held → IsClockOf now.core.plan clock
+timed-clock r rule limit begin now clock held c =
+    record { plan_is = c.so_far.follows.plan_is ∙ sym (same-plan limit begin now c.reached); room = c.so_far.follows.room }
 
 -- a move that is offered, for which the clock has room
 move-kept : (r : GuessRule) (limit : ℕ) (begin now : RunPlace) (held place : ℕ) (mv : Move) → IsAccepted begin.core.plan → Reaches limit show.report begin now →

@@ -1,7 +1,6 @@
 -- The move that finishes earliest is an Issue or the first of the other moves.
-use Rattle.std.proofs.Common.{◌≡◌, ◌∙◌, sym, refl, ap, ℕ, zero, suc, ◌+◌, ◌-◌, ◌^◌, ◌<◌, ◌≤◌, List, [], ◌∷◌, ◌++◌, All, fold, length, get_or, Bool, true, false, nat_lt, Some, None, arith}
-use Rattle.std.specs.Prelude.{IfSome, slice_get}
-use Rattle.std.proofs.lemmas.Bool.Decides.{nat_tests}
+use Rattle.std.proofs.Common.{◌≡◌, ◌∙◌, sym, refl, ap, ℕ, zero, suc, ◌+◌, ◌-◌, ◌<◌, ◌≤◌, List, [], ◌∷◌, ◌++◌, All, length, get_or, Bool, true, false, Some, None, arith}
+use Rattle.std.specs.Prelude.{slice_get}
 use Rattle.std.proofs.lemmas.List.Elements.{All-filter}
 use Rattle.std.proofs.lemmas.Option.{get_or_from_slice_get, slice_get_within}
 use Rattle.run_options.specs.declared.guess_rule.GuessRule.{GuessRule}
@@ -22,11 +21,9 @@ use Rattle.cf_timed.specs.Delays.{span_of}
 use Rattle.cf_timed.specs.DelayedRuns.{class_of_move}
 use Rattle.cf_timed.specs.Drawing.{stream_of}
 use Rattle.cf_timed.specs.Earliest.{first_least}
-use Rattle.cf_timed.specs.Seeking.{Seeking, nothing, shown}
-use Rattle.cf_timed.specs.Soonest.{AreLater, IsIssueBy, IsSoonest, due_of}
+use Rattle.cf_timed.specs.Soonest.{AreLater, IsIssueBy, IsSoonest}
 use Rattle.cf_timed.specs.declared.soonest.Due.{Due}
-use Rattle.cf_timed.proofs.Leasts.{least-after, least-front, least-of_all}
-use Rattle.cf_timed.proofs.Sought.{found-bound, found-least}
+use Rattle.cf_timed.proofs.Leasts.{IsFirst, least-after, least-front, least-of_all}
 
 -- all Issues use the same sites and are of one kind
 issue_time : (c : ClockedState) (g : Guess) → capped c (Issue g) ≡ capped c (Issue Next)
@@ -85,12 +82,11 @@ front c (x ∷ xs) ys mv at same later =
     let e = least-of_all (capped c) (x ∷ xs ++ ys) 0 (capped c mv) mv (least-front (capped c) (x ∷ xs) ys (capped c mv) (omega arith) same later) in
     rw (← e) at
 
-pub issue_soonest : (c : ClockedState) (r : GuessRule) (plan : Plan) (s : State) (held : Bool) (seek : Seeking) (due : Due) → length
-    (allowed_others plan s) ≤ 517 →
-    seek ≡ fold shown (nothing c) (allowed_others plan s) →
-    IsIssueBy c (unheld_issues held r plan s) seek.time due → IsSoonest c (withheld held (guided r plan s)) due
-issue_soonest c r plan s true seek due few e h = let at = h.mv in absurd (cc)
-issue_soonest c r plan s false seek due few e h =
+pub issue_soonest : (c : ClockedState) (r : GuessRule) (plan : Plan) (s : State) (held : Bool) (by : ℕ) (due : Due) →
+    ((k : ℕ) (d : Move) → k < length (allowed_others plan s) → by ≤ capped c (get_or (allowed_others plan s) k d)) →
+    IsIssueBy c (unheld_issues held r plan s) by due → IsSoonest c (withheld held (guided r plan s)) due
+issue_soonest c r plan s true by due bound h = let at = h.mv in absurd (cc)
+issue_soonest c r plan s false by due bound h =
     let issues = kept_issues r plan s in
     let at = h.mv in
     let time = h.time in
@@ -99,34 +95,26 @@ issue_soonest c r plan s false seek due few e h =
     let is = get_or_from_slice_get issues 0 due.mv due.mv (sym at) in
     let one : capped c due.mv ≡ capped c (Issue Next) = ap (capped c) (sym is) ∙ each_issue c r plan s 0 due.mv within in
     let first = front c issues (allowed_others plan s) due.mv at (λ k d below. each_issue c r plan s k d below ∙ sym one)
-    (λ k d below. let b = found-bound c (allowed_others plan s) seek (omega (arith, few)) e k d below in omega (arith, b, time, soon)) in
+    (λ k d below. let b = bound k d below in omega (arith, b, time, soon)) in
     record { mv = rw (guided_parts r plan s) first; time = time }
 
 -- and otherwise the first of the others is
-pub other_soonest : (c : ClockedState) (r : GuessRule) (plan : Plan) (s : State) (held : Bool) (seek : Seeking) → length (allowed_others plan s) ≤ 517 →
-    seek ≡ fold shown (nothing c) (allowed_others plan s) →
-    AreLater c (unheld_issues held r plan s) seek.time → IfSome (due_of seek) (λ due. IsSoonest c (withheld held (guided r plan s)) due)
-other_soonest c r plan s held seek few e later = by (nat_lt seek.time (2 ^ 64 - 1)) refl
+pub other_soonest : (c : ClockedState) (r : GuessRule) (plan : Plan) (s : State) (held : Bool) (by : ℕ) (mv : Move) →
+    IsFirst (capped c) (allowed_others plan s) by mv → AreLater c (unheld_issues held r plan s) by →
+    IsSoonest c (withheld held (guided r plan s)) (record { mv = mv; time = by })
+other_soonest c r plan s held by mv found later =
+    let others = allowed_others plan s in
+    let issues = unheld_issues held r plan s in
+    let w = found.is_least.within in
+    let parts = withheld_others r plan s held (omega (arith, w)) in
+    let place = least-of_all (capped c) (issues ++ others) (length issues + found.place) by mv
+    (least-after (capped c) issues others found.place by later found.is_least) in
+    let at = beyond issues others (length issues) (length issues + found.place) mv refl (omega arith)
+    (rw (past (length issues) found.place) (sym found.there)) in
+    record { mv = rw (parts, ← place) at; time = sym found.is }
   where
-    found : seek.time < 2 ^ 64 - 1 → IsSoonest c (withheld held (guided r plan s)) (record { mv = seek.move; time = seek.time })
-    found below =
-        let others = allowed_others plan s in
-        let issues = unheld_issues held r plan s in
-        let least = found-least c others seek (omega (arith, few)) e below in
-        let w = least.least.within in
-        let parts = withheld_others r plan s held (omega (arith, w)) in
-        let place = least-of_all (capped c) (issues ++ others) (length issues + seek.place) seek.time seek.move
-        (least-after (capped c) issues others seek.place seek.time later least.least) in
-        let at = beyond issues others (length issues) (length issues + seek.place) seek.move refl (omega arith)
-        (rw (past (length issues) seek.place) (sym least.move)) in
-        record { mv = rw (parts, ← place) at; time = sym least.time }
-      where
-        past : (n k : ℕ) → n + k - n ≡ k
-        past n k = omega arith
-
-    by : (b : Bool) → nat_lt seek.time (2 ^ 64 - 1) ≡ b → IfSome (due_of seek) (λ due. IsSoonest c (withheld held (guided r plan s)) due)
-    by true t = rw t (found (grind (arith, nat_tests)))
-    by false t = rw t tt
+    past : (n k : ℕ) → n + k - n ≡ k
+    past n k = omega arith
 
 -- what is offered, whether or not Issue is held back
 pub soonest_offered : (c : ClockedState) (count : PaceCount) (r : GuessRule) (plan : Plan) (s : State) (held : Bool) (due : Due) → r ≡ count.rule →

@@ -1,10 +1,9 @@
 -- A move that was recorded delays the moves that share a site with it, and no other.
-use Rattle.std.proofs.Common.{◌≡◌, ◌∙◌, refl, sym, ap, subst, ℕ, zero, suc, ◌+◌, ◌<◌, ◌≤◌, List, [], ◌∷◌, map, max, Option, Some, None, Bool, true, false, cond, arith}
-use Rattle.std.specs.Prelude.{◌||◌, slice_set}
+use Rattle.std.proofs.Common.{◌≡◌, ◌∙◌, refl, ap, ℕ, zero, suc, ◌≤◌, List, [], ◌∷◌, map, max, Option, Some, None, Bool, true, false, cond, arith}
+use Rattle.std.specs.Prelude.{slice_set}
 use Rattle.std.specs.List.{AllByRecursion, list_any}
 use Rattle.rand_pcg.specs.Pcg.{output_xsh_rr}
 use Rattle.rv_inst.specs.declared.classes.Class.{Class}
-use Rattle.cf_layout.specs.Layout.{Plan}
 use Rattle.cf_bind.specs.declared.moves.Move.{Move}
 use Rattle.cf_semantics.specs.moves.Sites.{Site, among}
 use Rattle.cf_semantics.specs.state.Options.{on}
@@ -12,7 +11,7 @@ use Rattle.cf_semantics.specs.state.State.{State}
 use Rattle.cf_index.specs.Sites.{shares, used, uses_place}
 use Rattle.cf_timed.specs.declared.draws.DelayDraws.{DelayDraws}
 use Rattle.cf_timed.specs.declared.span.Span.{Span}
-use Rattle.cf_timed.specs.Clocks.{AreKept, ClockedState, HasRoom, IsKept, SiteTimes, allowed, begin_time, clocked, delay_by, drawing, finish_time, put_times, stamped, time_at}
+use Rattle.cf_timed.specs.Clocks.{AreKept, HasRoom, IsKept, SiteTimes, allowed, begin_time, clocked, delay_by, put_times, stamped, time_at}
 use Rattle.cf_timed.specs.Delays.{span_of}
 use Rattle.cf_timed.specs.DelayedRuns.{class_of_move}
 use Rattle.cf_timed.specs.Drawing.{after_word, next_draw_state, next_word, stream_of, ticks_in}

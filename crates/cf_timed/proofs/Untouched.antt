@@ -1,5 +1,5 @@
 -- A move leaves each move that shares no site with it as it is: allowed or not, and of the same class.
-use Rattle.std.proofs.Common.{◌≡◌, ◌∙◌, refl, sym, ap, ℕ, zero, suc, ◌≤◌, List, map, length, [], ◌∷◌, Option, Some, None, Bool, true, false, cond, nat_eq, arith}
+use Rattle.std.proofs.Common.{◌≡◌, ◌∙◌, refl, sym, ap, ℕ, zero, suc, List, map, length, [], ◌∷◌, Option, Some, None, Bool, true, false, cond, nat_eq, arith}
 use Rattle.std.specs.Prelude.{◌||◌, ◌&&◌, not, slice_get, unwrap_or}
 use Rattle.std.proofs.lemmas.Bool.Decides.{nat_tests}
 use Rattle.cf_layout.specs.Layout.{Plan, SidingPlan, cells_of, no_siding}
@@ -12,9 +12,9 @@ use Rattle.cf_bind.specs.declared.moves.Move.TheVariants.{Issue, Emit, Climb, Fa
 use Rattle.cf_bind.specs.declared.moves.Bar.TheVariants.{Failed, Halted, NoSuchSite}
 use Rattle.cf_semantics.specs.moves.Bars.{bar, first_bar_of}
 use Rattle.cf_semantics.specs.moves.Moves.{left, moved, next}
-use Rattle.cf_semantics.specs.moves.Sites.{Content, Ended, Failure, OfEnding, OfFailure, OfStage, Site, Stage, content, ends_there, writes}
+use Rattle.cf_semantics.specs.moves.Sites.{Ended, Failure, OfEnding, OfFailure, OfStage, Stage, writes}
 use Rattle.cf_semantics.specs.state.Options.{is_some, on}
-use Rattle.cf_semantics.specs.state.State.{Moment, State, cell_at, siding_at}
+use Rattle.cf_semantics.specs.state.State.{Moment, State, cell_at}
 use Rattle.theory_confluence.proofs.Laws.{move_local}
 use Rattle.cf_core.specs.Processors.{IsProcessor}
 use Rattle.cf_index.specs.Allowed.{is_allowed}

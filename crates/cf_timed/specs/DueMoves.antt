@@ -46,11 +46,18 @@ pub record Look : Type 0 where
 abbrev pub first_look : ClockedState → Look
 first_look clock = record { clock = clock; kept = record { time = 2 ^ 64 - 1; moves = [] } }
 
+-- one move more, if there is room for it
+abbrev pub with_one : KeptMoves → Move → KeptMoves
+with_one kept mv = record kept { moves = take most_kept (kept.moves ++ mv ∷ []) }
+
+abbrev pub seen_with : Look → Move → Look
+seen_with s mv = record s { kept = with_one s.kept mv }
+
 -- what is kept once a move that finishes at this time was looked at
 abbrev pub kept_with : KeptMoves → Move → ℕ → KeptMoves
 kept_with kept mv time =
     if nat_lt time kept.time then record { time = time; moves = mv ∷ [] }
-    else (if nat_eq time kept.time then record kept { moves = take most_kept (kept.moves ++ mv ∷ []) } else kept)
+    else (if nat_eq time kept.time then with_one kept mv else kept)
 
 -- one more move was looked at
 abbrev pub looked : Look → Move → Look

@@ -1,10 +1,9 @@
 -- The move that finishes earliest, if the Issues are searched after the other moves.
-use Rattle.std.specs.Prelude.{◌≡◌, ℕ, ◌-◌, ◌^◌, ◌<◌, ◌≤◌, All, List, Option, Some, None, nat_lt, slice_get, if◌then◌else◌}
+use Rattle.std.specs.Prelude.{◌≡◌, ℕ, ◌<◌, ◌≤◌, All, List, Some, slice_get}
 use Rattle.cf_bind.specs.declared.moves.Move.{Move}
 use Rattle.cf_timed.specs.declared.soonest.Due.{Due}
 use Rattle.cf_timed.specs.Clocks.{ClockedState, capped}
 use Rattle.cf_timed.specs.Earliest.{first_least}
-use Rattle.cf_timed.specs.Seeking.{Seeking}
 
 -- it is the first of the moves that finish earliest, with its time
 pub record IsSoonest (c : ClockedState) (moves : List Move) (due : Due) : Type 0 where
@@ -20,7 +19,3 @@ pub record IsIssueBy (c : ClockedState) (issues : List Move) (by : ℕ) (due : D
 -- each of the moves finishes later
 abbrev pub AreLater : ClockedState → List Move → ℕ → Type 0
 AreLater c moves by = All (λ mv. by < capped c mv) moves
-
--- what was found, if its time is below the maximum number of 64 bits
-abbrev pub due_of : Seeking → Option Due
-due_of s = if nat_lt s.time (2 ^ 64 - 1) then Some (record { mv = s.move; time = s.time }) else None

@@ -3,10 +3,8 @@
 ghost use Rattle.std.specs.Prelude.{◌≡◌};
 ghost use Rattle.cf_timed.specs.Clocks.{clocked};
 ghost use Rattle.cf_timed.specs.Seeking.{nothing, shown};
-ghost use Rattle.cf_timed.specs.Soonest.{due_of};
 
 use crate::clock::Clock;
-use crate::soonest::Due;
 use cf_bind::Move;
 use cf_core::Core;
 use cf_index::Visitor;
@@ -59,21 +57,6 @@ impl<'a> Least<'a> {
             place: 0,
             time: u64::MAX,
             mv: Move::Exit,
-        }
-    }
-
-    /// The move that was found, if its time is below the maximum `u64`.
-    #[inline(always)]
-    pub(crate) fn due(&self) -> Option<Due>
-        ensures { result ≡ due_of self.now }
-    {
-        if self.time < u64::MAX {
-            Some(Due {
-                mv: self.mv,
-                time: self.time,
-            })
-        } else {
-            None
         }
     }
 }

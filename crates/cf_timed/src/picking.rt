@@ -3,10 +3,12 @@
 ghost use Rattle.std.specs.Prelude.{◌≡◌, ◌<◌, None, Some, length, slice_get};
 ghost use Rattle.cf_sched.specs.Paces.{offered_by, offers};
 ghost use Rattle.cf_timed.specs.Clocks.{capped, clocked};
+ghost use Rattle.cf_timed.specs.DueMoves.{AreDue};
 ghost use Rattle.cf_timed.specs.Earliest.{first_least};
 ghost use Rattle.cf_timed.specs.Soonest.{IsSoonest};
 
 use crate::clock::Clock;
+use crate::due_moves::DueMoves;
 use crate::least::Least;
 use crate::soonest::Due;
 use cf_bind::Move;
@@ -50,11 +52,19 @@ impl Clock {
     /// The first of the offered moves that finish earliest.
     #[inline(always)]
     #[tactic(auto, using(crate::proofs::Sooner::soonest_offered))]
-    fn earliest_offered(&self, core: &Core, candidates: &mut Candidates, pace: &Pace) -> Due
-        requires { 0 < length (offers pace.now core.now.plan core.now.state) }
-        ensures { IsSoonest (clocked self.now core.now.state) (offers pace.now core.now.plan core.now.state) result }
+    fn earliest_offered(
+        &self,
+        core: &Core,
+        candidates: &mut Candidates,
+        pace: &Pace,
+        kept: &mut DueMoves,
+    ) -> Due
+        requires some { 0 < length (offers pace.now core.now.plan core.now.state) }
+        requires due { AreDue core.now.plan (clocked self.now core.now.state) kept.old }
+        ensures soonest { IsSoonest (clocked self.now core.now.state) (offers pace.now core.now.plan core.now.state) result }
+        ensures due { AreDue core.now.plan (clocked self.now core.now.state) kept.new }
     {
-        match self.soonest(core, pace.rule(), pace.held()) {
+        match self.soonest(core, pace.rule(), pace.held(), kept) {
             Some(due) => due,
             None => self.earliest_filled(core, candidates, pace),
         }
@@ -63,11 +73,19 @@ impl Clock {
     /// The first of the offered moves that finish earliest, by the pace of a processor with as many stages.
     #[inline(always)]
     #[tactic(auto, using(cf_run::proofs::Stopped::offering))]
-    pub(crate) fn earliest(&self, core: &Core, candidates: &mut Candidates, pace: &Pace) -> Due
+    pub(crate) fn earliest(
+        &self,
+        core: &Core,
+        candidates: &mut Candidates,
+        pace: &Pace,
+        kept: &mut DueMoves,
+    ) -> Due
         requires stages { pace.now.stages ≡ core.now.plan.stages }
         requires some { 0 < length (offered_by pace.now.rule core.now.plan pace.now.count core.now.state) }
-        ensures { IsSoonest (clocked self.now core.now.state) (offered_by pace.now.rule core.now.plan pace.now.count core.now.state) result }
+        requires due { AreDue core.now.plan (clocked self.now core.now.state) kept.old }
+        ensures soonest { IsSoonest (clocked self.now core.now.state) (offered_by pace.now.rule core.now.plan pace.now.count core.now.state) result }
+        ensures due { AreDue core.now.plan (clocked self.now core.now.state) kept.new }
     {
-        self.earliest_offered(core, candidates, pace)
+        self.earliest_offered(core, candidates, pace, kept)
     }
 }

@@ -9,12 +9,14 @@ ghost use Rattle.run_finishes.specs.Stopped.{input_stopped, output_stopped};
 ghost use Rattle.cf_run.specs.Made.{CanCount};
 ghost use Rattle.cf_run.specs.Moving.{run_place_of};
 ghost use Rattle.cf_run.specs.Policies.{most_moves};
-ghost use Rattle.cf_timed.specs.Clocks.{rule_of_clock};
+ghost use Rattle.cf_timed.specs.Clocks.{IsClockOf, clocked, rule_of_clock};
+ghost use Rattle.cf_timed.specs.DueMoves.{AreDue};
 ghost use Rattle.cf_timed.specs.TimedRuns.{CanBegin, GoesShown, GoesWatched, HasCauses, RunsTimed, answer_of_timed, answer_at_end, begins};
 ghost use Rattle.cf_timed.specs.Turns.{TurnsTimed, stop_of};
 
 use crate::answer::{Timed, TimedRun};
 use crate::clock::Clock;
+use crate::due_moves::DueMoves;
 use crate::move_lines::MoveLines;
 use crate::options::TimedOptions;
 use crate::step::TimedStep;
@@ -33,6 +35,7 @@ fn advance<S: Source, K: Sink>(
     core: &mut Core,
     candidates: &mut Candidates,
     clock: &mut Clock,
+    kept: &mut DueMoves,
     pace: &mut Pace,
     limit: u64,
     input: &mut S,
@@ -44,10 +47,13 @@ fn advance<S: Source, K: Sink>(
     requires stages { pace.old.stages ≡ core.old.plan.stages }
     requires some { core.old.state.ending ≡ None → 0 < length (offered_by pace.old.rule core.old.plan pace.old.count core.old.state) }
     requires counts { CanCount tally.old }
+    requires clock { IsClockOf core.old.plan clock.old }
+    requires due { core.old.state.ending ≡ None → AreDue core.old.plan (clocked clock.old core.old.state) kept.old }
     ensures turns { TurnsTimed limit pace.old.rule
         (run_place_of core.old (streams_of (S.left input.old) (K.written output.old)) None tally.old)
         (run_place_of core.new (streams_of (S.left input.new) (K.written output.new)) None tally.new)
         pace.old.count pace.new.count clock.old clock.new result }
+    ensures due { IfOk result (λ step. core.new.state.ending ≡ None → AreDue core.new.plan (clocked clock.new core.new.state) kept.new) }
     ensures rule { pace.new.rule ≡ pace.old.rule }
     ensures stages { pace.new.stages ≡ pace.old.stages }
     ensures input { HasCause (S.faults input.old) (S.faults input.new) (input_stopped (stop_of result)) }
@@ -56,7 +62,9 @@ fn advance<S: Source, K: Sink>(
     if let Some(ran) = over(core, limit) {
         return Err(ran);
     }
-    let due = clock.earliest(core, candidates, pace);
+    let _layout = core.layout();
+    clock.known();
+    let due = clock.earliest(core, candidates, pace, kept);
     let done = TimedMove {
         mv: due.mv,
         delay: clock.delay(core, due.mv),
@@ -77,6 +85,7 @@ fn advance<S: Source, K: Sink>(
         Ok(event) => {
             pace.saw(due.mv, &event, core.drained());
             clock.stamp(due.mv, due.time);
+            kept.made(due.mv, due.time);
             Ok(TimedStep { event, done })
         }
         Err(ran) => Err(ran),
@@ -126,6 +135,7 @@ pub fn run_watched<W: Watcher, S: Source, K: Sink, R: Sink>(
 {
     known(core);
     clock.known();
+    let mut kept = DueMoves::new();
     let mut pace = Pace::new(options.rule, core.layout().stages());
     let mut tally = Tally {
         moves: 0,
@@ -138,6 +148,7 @@ pub fn run_watched<W: Watcher, S: Source, K: Sink, R: Sink>(
             core,
             candidates,
             clock,
+            &mut kept,
             &mut pace,
             options.limit,
             input,

@@ -1,13 +1,15 @@
 //! The move that finishes earliest, found without filling in the candidates.
 
-ghost use Rattle.std.specs.Prelude.{◌≡◌, IfSome, None};
+ghost use Rattle.std.specs.Prelude.{◌≡◌, IfSome, None, slice_get};
 ghost use Rattle.cf_index.specs.Allowed.{unheld_issues, withheld};
 ghost use Rattle.cf_index.specs.GuessRules.{guided};
 ghost use Rattle.cf_timed.specs.Clocks.{clocked};
+ghost use Rattle.cf_timed.specs.DueMoves.{AreDue, still_due};
 ghost use Rattle.cf_timed.specs.Soonest.{AreLater, IsIssueBy, IsSoonest};
 
 use crate::clock::Clock;
-use crate::least::Least;
+use crate::due_moves::DueMoves;
+use crate::looking::Looking;
 use cf_bind::{Guess, Move};
 use cf_core::Core;
 use cf_index::Candidates;
@@ -43,17 +45,75 @@ impl Clock {
         }
     }
 
+    /// Looks at the allowed moves other than Issue, and keeps those that finish earliest. It keeps none if no time is
+    /// below the maximum `u64`.
+    #[inline(always)]
+    fn look(&self, core: &Core, kept: &mut DueMoves)
+        ensures due { AreDue core.now.plan (clocked self.now core.now.state) kept.new }
+        ensures still { still_due self.now kept.new ≡ kept.new.moves }
+    {
+        self.known();
+        let _layout = core.layout();
+        let mut looking = Looking::new(self, core);
+        Candidates::visit_others(core, &mut looking);
+        *kept = looking.due();
+    }
+
+    /// The first of the kept moves that is still due; those before it are left out.
+    #[inline(always)]
+    fn first_kept(&self, core: &Core, kept: &mut DueMoves) -> Option<Move>
+        requires due { AreDue core.now.plan (clocked self.now core.now.state) kept.old }
+        ensures due { AreDue core.now.plan (clocked self.now core.now.state) kept.new }
+        ensures first { result ≡ slice_get (still_due self.now kept.new) 0 }
+    {
+        let _core = core;
+        while let Some(mv) = kept.first() {
+            if self.reach(mv) < kept.time() {
+                return Some(mv);
+            }
+            kept.skip();
+        }
+        None
+    }
+
+    /// The first of the allowed moves other than Issue that finish earliest: of those that are kept, if one is still due.
+    #[inline(always)]
+    fn first_due(&self, core: &Core, kept: &mut DueMoves) -> Option<Move>
+        requires due { AreDue core.now.plan (clocked self.now core.now.state) kept.old }
+        ensures due { AreDue core.now.plan (clocked self.now core.now.state) kept.new }
+        ensures first { result ≡ slice_get (still_due self.now kept.new) 0 }
+    {
+        match self.first_kept(core, kept) {
+            Some(mv) => Some(mv),
+            None => {
+                self.look(core, kept);
+                kept.first()
+            }
+        }
+    }
+
     /// The first of the allowed moves that the guess rule keeps and that finish earliest, whether or not Issue is held
     /// back. It may be `None` if no time of a move other than Issue is below the maximum `u64`.
     #[inline(always)]
-    pub(crate) fn soonest(&self, core: &Core, rule: GuessRule, held: bool) -> Option<Due>
-        ensures { IfSome result (λ due. IsSoonest (clocked self.now core.now.state) (withheld held (guided rule core.now.plan core.now.state)) due) }
+    pub(crate) fn soonest(
+        &self,
+        core: &Core,
+        rule: GuessRule,
+        held: bool,
+        kept: &mut DueMoves,
+    ) -> Option<Due>
+        requires due { AreDue core.now.plan (clocked self.now core.now.state) kept.old }
+        ensures due { AreDue core.now.plan (clocked self.now core.now.state) kept.new }
+        ensures soonest { IfSome result (λ due. IsSoonest (clocked self.now core.now.state) (withheld held (guided rule core.now.plan core.now.state)) due) }
     {
-        let mut least = Least::new(self, core);
-        Candidates::visit_others(core, &mut least);
-        match self.issue_by(core, rule, held, least.time) {
+        let first = self.first_due(core, kept);
+        let time = kept.time();
+        match self.issue_by(core, rule, held, time) {
             Some(due) => Some(due),
-            None => least.due(),
+            None => match first {
+                Some(mv) => Some(Due { mv, time }),
+                None => None,
+            },
         }
     }
 }

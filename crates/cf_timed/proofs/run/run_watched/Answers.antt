@@ -2,7 +2,8 @@ use Rattle.std.proofs.Common.{◌∙◌, ap, refl, sym, arith}
 use Rattle.cf_layout.specs.Layout.{Plan}
 use Rattle.cf_run.proofs.Coming.{turned-plan}
 use Rattle.cf_run.proofs.Runs.{can-count}
-use Rattle.cf_timed.proofs.Running.{ends-bounded, is-begun, never-reported, timed-counted, timed-ends, timed-nearer, timed-offered, timed-within}
+use Rattle.cf_timed.proofs.DueMoves.{due_none}
+use Rattle.cf_timed.proofs.Running.{ends-bounded, is-begun, never-reported, timed-clock, timed-counted, timed-ends, timed-nearer, timed-offered, timed-within}
 use Rattle.cf_timed.proofs.Watched.{goes-broken, runs-watched, watched-breaks, watched-first, watched-more}
 use Rattle.cf_timed.proofs.run.run_watched.Goals as goal
 
@@ -12,6 +13,7 @@ loop-step-init g c = record {
       (c.stages.ensures.stages ∙ ap (λ (plan : Plan). plan.stages) c.layout.ensures.layout) c.new-pace.ensures.2;
   rule = c.new-pace.ensures.0;
   stages = c.new-pace.ensures.1 ∙ c.stages.ensures.stages ∙ ap (λ (plan : Plan). plan.stages) c.layout.ensures.layout;
+  due = λ unended. rw c.new-kept.ensures (due_none _ _);
   within = c.requires.begins.can_run.can_run.within;
   input = refl;
   output = refl;
@@ -21,6 +23,9 @@ loop-step-init g c = record {
 pub advance-requires-clause-some : goal.advance-requires-clause-some
 advance-requires-clause-some g c = rw c.loop-step.invariant.rule (timed-offered _ _ _ _ _ _ _
     (is-begun _ _ _ c.known.ensures.accepted c.known.ensures.registers c.requires.begins.can_run c.known-2.ensures) c.loop-step.invariant.comes.comes)
+
+pub advance-requires-clause-clock : goal.advance-requires-clause-clock
+advance-requires-clause-clock g c = timed-clock _ _ _ _ _ _ _ c.loop-step.invariant.comes.comes
 
 pub advance-requires-clause-counts : goal.advance-requires-clause-counts
 advance-requires-clause-counts g c =
@@ -60,6 +65,7 @@ loop-step-preserved g c =
       rule = c.in-Ok.ensures.rule ∙ c.loop-step.invariant.rule;
       stages = c.in-Ok.ensures.stages ∙ c.loop-step.invariant.stages ∙ ap (λ (plan : Plan). plan.stages)
           (sym (turned-plan _ _ _ _ _ _ _ _ turns.makes));
+      due = c.in-Ok.ensures.due;
       within = timed-within _ _ _ _ _ _ _ _ _ turns;
       input = c.in-Ok.ensures.input.still ∙ c.loop-step.invariant.input;
       output = c.in-Ok.ensures.output.still ∙ c.loop-step.invariant.output;

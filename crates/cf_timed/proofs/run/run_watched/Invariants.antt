@@ -2,11 +2,12 @@ use Rattle.std.proofs.Common.{◌≡◌, ◌-◌, ◌≤◌, None}
 use Rattle.rv_machine.specs.Streams.{streams_of}
 use Rattle.cf_run.specs.Moving.{RunPlace, run_place_of}
 use Rattle.cf_run.specs.Policies.{most_moves}
-use Rattle.cf_timed.specs.Clocks.{rule_of_clock}
+use Rattle.cf_timed.specs.Clocks.{clocked, rule_of_clock}
+use Rattle.cf_timed.specs.DueMoves.{AreDue}
 use Rattle.cf_timed.proofs.Watched.{ComesWatched}
 use Rattle.cf_timed.proofs.run.run_watched.Given as goal
 
--- the picks that were made so far lead here, and no fault was counted
+-- the picks that were made so far lead here, what is kept of the moves that are due is right, and no fault was counted
 abbrev pub invariant-loop-step : goal.invariant-loop-step
 invariant-loop-step g l =
     let left = g.S.Source.left in
@@ -20,6 +21,7 @@ invariant-loop-step g l =
           (reported l.initial.report) (reported l.report) l.pace.count;
       rule : l.pace.rule ≡ l.options.rule;
       stages : l.pace.stages ≡ l.core.plan.stages;
+      due : l.core.state.ending ≡ None → AreDue l.core.plan (clocked l.clock l.core.state) l.kept;
       within : l.core.state.retired ≤ l.options.limit;
       input : g.S.Source.faults l.input ≡ g.S.Source.faults l.initial.input;
       output : g.K.Sink.faults l.output ≡ g.K.Sink.faults l.initial.output;
