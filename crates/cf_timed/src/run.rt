@@ -29,14 +29,20 @@ use cf_report::Tally;
 use cf_run::{Ran, Reporting, Show, known, make_and_show, over};
 use cf_sched::Pace;
 
+/// What a run keeps from one move to the next: its pace, and the moves that are due.
+#[derive(Drop)]
+struct Course {
+    pace: Pace,
+    kept: DueMoves,
+}
+
 /// Makes the move that finishes earliest, or returns why the run stops.
 #[inline(always)]
 fn advance<S: Source, K: Sink>(
     core: &mut Core,
     candidates: &mut Candidates,
     clock: &mut Clock,
-    kept: &mut DueMoves,
-    pace: &mut Pace,
+    course: &mut Course,
     limit: u64,
     input: &mut S,
     output: &mut K,
@@ -44,18 +50,18 @@ fn advance<S: Source, K: Sink>(
 ) -> Result<TimedStep, Ran>
     requires limit { limit + 1 < 2 ^ 64 }
     requires retired { core.old.state.retired ≤ limit }
-    requires stages { pace.old.stages ≡ core.old.plan.stages }
-    requires some { core.old.state.ending ≡ None → 0 < length (offered_by pace.old.rule core.old.plan pace.old.count core.old.state) }
+    requires stages { course.old.pace.stages ≡ core.old.plan.stages }
+    requires some { core.old.state.ending ≡ None → 0 < length (offered_by course.old.pace.rule core.old.plan course.old.pace.count core.old.state) }
     requires counts { CanCount tally.old }
     requires clock { IsClockOf core.old.plan clock.old }
-    requires due { core.old.state.ending ≡ None → AreDue core.old.plan (clocked clock.old core.old.state) kept.old }
-    ensures turns { TurnsTimed limit pace.old.rule
+    requires due { core.old.state.ending ≡ None → AreDue core.old.plan (clocked clock.old core.old.state) course.old.kept }
+    ensures turns { TurnsTimed limit course.old.pace.rule
         (run_place_of core.old (streams_of (S.left input.old) (K.written output.old)) None tally.old)
         (run_place_of core.new (streams_of (S.left input.new) (K.written output.new)) None tally.new)
-        pace.old.count pace.new.count clock.old clock.new result }
-    ensures due { IfOk result (λ step. core.new.state.ending ≡ None → AreDue core.new.plan (clocked clock.new core.new.state) kept.new) }
-    ensures rule { pace.new.rule ≡ pace.old.rule }
-    ensures stages { pace.new.stages ≡ pace.old.stages }
+        course.old.pace.count course.new.pace.count clock.old clock.new result }
+    ensures due { IfOk result (λ step. core.new.state.ending ≡ None → AreDue core.new.plan (clocked clock.new core.new.state) course.new.kept) }
+    ensures rule { course.new.pace.rule ≡ course.old.pace.rule }
+    ensures stages { course.new.pace.stages ≡ course.old.pace.stages }
     ensures input { HasCause (S.faults input.old) (S.faults input.new) (input_stopped (stop_of result)) }
     ensures output { HasCause (K.faults output.old) (K.faults output.new) (output_stopped (stop_of result)) }
 {
@@ -64,7 +70,7 @@ fn advance<S: Source, K: Sink>(
     }
     let _layout = core.layout();
     clock.known();
-    let due = clock.earliest(core, candidates, pace, kept);
+    let due = clock.earliest(core, candidates, &course.pace, &mut course.kept);
     let done = TimedMove {
         mv: due.mv,
         delay: clock.delay(core, due.mv),
@@ -83,9 +89,9 @@ fn advance<S: Source, K: Sink>(
         tally,
     ) {
         Ok(event) => {
-            pace.saw(due.mv, &event, core.drained());
+            course.pace.saw(due.mv, &event, core.drained());
             clock.stamp(due.mv, due.time);
-            kept.made(due.mv, due.time);
+            course.kept.made(due.mv, due.time);
             Ok(TimedStep { event, done })
         }
         Err(ran) => Err(ran),
@@ -135,8 +141,9 @@ pub fn run_watched<W: Watcher, S: Source, K: Sink, R: Sink>(
 {
     known(core);
     clock.known();
-    let mut kept = DueMoves::new();
-    let mut pace = Pace::new(options.rule, core.layout().stages());
+    let kept = DueMoves::new();
+    let pace = Pace::new(options.rule, core.layout().stages());
+    let mut course = Course { pace, kept };
     let mut tally = Tally {
         moves: 0,
         meets: 0,
@@ -148,8 +155,7 @@ pub fn run_watched<W: Watcher, S: Source, K: Sink, R: Sink>(
             core,
             candidates,
             clock,
-            &mut kept,
-            &mut pace,
+            &mut course,
             options.limit,
             input,
             output,
