@@ -1,4 +1,4 @@
--- A word with the stage above its lowest one in place of that one.
+-- A word with the stage above its lowest one instead of that one.
 use Rattle.std.proofs.Common.{◌≡◌, refl, ℕ, ◌-◌, ◌<◌, ◌^◌, Bool, true, false, nat_eq, nat_lt, arith}
 use Rattle.std.specs.Prelude.{◌&&◌, ◌||◌, not}
 use Rattle.std.proofs.lemmas.Bool.Decides.{nat_tests}

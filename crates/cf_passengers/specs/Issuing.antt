@@ -1,5 +1,5 @@
 -- What is fetched at an address: an instruction, or the trap of that address (RISC-V Unprivileged ISA Manual,
--- instruction fetch). And what stands for it until it is fetched.
+-- instruction fetch). And what is issued before it is fetched.
 use Rattle.std.specs.Prelude.{ℕ, Result, Ok, Err, None, false}
 use Rattle.rv_inst.specs.declared.instruction.Instr.{Instr}
 use Rattle.cf_bind.specs.declared.passenger.End.{End}

@@ -198,8 +198,8 @@ pub fn issue(p: &mut Passenger, ends: &Ends, fetched: Result<Instr, End>)
 }
 
 /// What is at the address of the blank `Passenger` is issued in its place, as by `issue`.
-// It is not inlined, so that each field is written where it is to stand; inlined, all of them are put together in
-// registers and on the stack first, and merged from every kind of instruction.
+// It is not inlined, so that each field is written where it belongs; inlined, all of them are put together in registers and
+// on the stack first, and merged from every kind of instruction.
 #[inline(never)]
 pub fn fetch_and_issue(p: &mut Passenger, ends: &Ends, isa: Isa, mem: &Regions)
     requires { p.old ≡ blank_passenger p.old.pc p.old.guess }

@@ -462,7 +462,8 @@ within-sweeps limit now core m tally e after before ready picked is event counts
 pub picks_there : (rule : GuessRule) (held : Bool) (plan : Plan) (s : State) (m last : Move) (r : Rank) (xs : List Move) → last ≡ m → r ≡ rank_of m →
     IsPickedFrom rule held plan s (Some m) (rank_of m) xs → IsPickedFrom rule held plan s (Some last) r xs
 picks_there rule held plan s m last r xs is at picked =
-    subst (λ (n : Move). IsPickedFrom rule held plan s (Some n) r xs) (sym is) (subst (λ (q : Rank). IsPickedFrom rule held plan s (Some m) q xs) (sym at) picked)
+    subst (λ (n : Move). IsPickedFrom rule held plan s (Some n) r xs) (sym is)
+    (subst (λ (q : Rank). IsPickedFrom rule held plan s (Some m) q xs) (sym at) picked)
 
 -- if these moves have none past the rank, only an Issue can come after the last pick
 pub picks_last : (rule : GuessRule) (held : Bool) (plan : Plan) (s : State) (last : Option Move) (r : Rank) (xs : List Move) →

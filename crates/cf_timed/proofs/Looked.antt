@@ -61,7 +61,8 @@ seen_more f seen kept mv h = by (nat_lt (f mv) kept.time) (nat_eq (f mv) kept.ti
           least = all_both (λ x. f mv ≤ f x) seen (mv ∷ []) (all_lower f kept.time (f mv) seen (omega (arith, under)) h.least) (omega arith, tt);
           moves =
               let one : with_time f (f mv) (mv ∷ []) ≡ mv ∷ [] = rw itself refl in
-              sym (ap (take most_kept) (parts (f mv) ∙ ap (λ (l : List Move). l ++ with_time f (f mv) (mv ∷ [])) (none_with f kept.time (f mv) seen under h.least)
+              sym (ap (take most_kept) (parts (f mv)
+              ∙ ap (λ (l : List Move). l ++ with_time f (f mv) (mv ∷ [])) (none_with f kept.time (f mv) seen under h.least)
               ∙ one));
         }
     by false true e g =

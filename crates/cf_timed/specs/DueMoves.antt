@@ -33,7 +33,7 @@ pub record AreDue (plan : Plan) (c : ClockedState) (kept : KeptMoves) : Type 0 w
   pub first : finishing c kept.time (allowed_others plan c.state) ≡ still_due c.clock kept ++ others
   pub sites : AllByRecursion (AreKept plan) kept.moves
 
--- at most so many moves are kept
+-- at most this many moves are kept
 abbrev pub most_kept : ℕ
 most_kept = 8
 

@@ -18,7 +18,7 @@ use std::alloc::{AllocError, Global};
 
 /// The kinds of moves that each stage has.
 #[derive(Clone, Copy)]
-pub(crate) enum StageKind {
+pub(crate) enum StagedKind {
     Climb,
     Fall,
     Meet,
@@ -28,19 +28,19 @@ pub(crate) enum StageKind {
     Recover,
 }
 
-impl StageKind {
+impl StagedKind {
     /// The move of this kind at a stage.
     fn at(self, i: u32) -> Move
         ensures { result ≡ kind_at self i }
     {
         match self {
-            StageKind::Climb => Move::Climb(i),
-            StageKind::Fall => Move::Fall(i),
-            StageKind::Meet => Move::Meet(i),
-            StageKind::Execute => Move::Execute(i),
-            StageKind::Send => Move::Send(i),
-            StageKind::Launch => Move::Launch(i),
-            StageKind::Recover => Move::Recover(i),
+            StagedKind::Climb => Move::Climb(i),
+            StagedKind::Fall => Move::Fall(i),
+            StagedKind::Meet => Move::Meet(i),
+            StagedKind::Execute => Move::Execute(i),
+            StagedKind::Send => Move::Send(i),
+            StagedKind::Launch => Move::Launch(i),
+            StagedKind::Recover => Move::Recover(i),
         }
     }
 }
@@ -49,7 +49,7 @@ impl StageKind {
 fn push_stages(
     moves: &mut Vec<Move>,
     layout: &LooseLayout,
-    kind: StageKind,
+    kind: StagedKind,
 ) -> Result<(), AllocError>
     ensures { IfOk result (λ done. moves.new.items ≡ moves.old.items ++ at_stages layout.now (kind_at kind)) }
 {
@@ -84,12 +84,12 @@ fn push_lower(moves: &mut Vec<Move>, layout: &LooseLayout) -> Result<(), AllocEr
     ensures { IfOk result (λ done. moves.new.items ≡ (((((moves.old.items ++ at_stages layout.now mv.Climb) ++ at_stages layout.now mv.Fall)
         ++ at_stages layout.now mv.Meet) ++ at_stages layout.now mv.Execute) ++ at_stages layout.now mv.Send) ++ at_stages layout.now mv.Launch) }
 {
-    push_stages(moves, layout, StageKind::Climb)?;
-    push_stages(moves, layout, StageKind::Fall)?;
-    push_stages(moves, layout, StageKind::Meet)?;
-    push_stages(moves, layout, StageKind::Execute)?;
-    push_stages(moves, layout, StageKind::Send)?;
-    push_stages(moves, layout, StageKind::Launch)
+    push_stages(moves, layout, StagedKind::Climb)?;
+    push_stages(moves, layout, StagedKind::Fall)?;
+    push_stages(moves, layout, StagedKind::Meet)?;
+    push_stages(moves, layout, StagedKind::Execute)?;
+    push_stages(moves, layout, StagedKind::Send)?;
+    push_stages(moves, layout, StagedKind::Launch)
 }
 
 /// All moves in their order, except an Issue whose guess is an address.
@@ -107,7 +107,7 @@ pub fn all_moves(alloc: Global, layout: &LooseLayout) -> Result<Vec<Move>, Alloc
     push_lower(&mut moves, layout)?;
     push_slides(&mut moves, layout)?;
     moves.push(Move::Access)?;
-    push_stages(&mut moves, layout, StageKind::Recover)?;
+    push_stages(&mut moves, layout, StagedKind::Recover)?;
     moves.extend_from_slice(&[Move::Leave, Move::Exit, Move::Serve])?;
     Ok(moves)
 }

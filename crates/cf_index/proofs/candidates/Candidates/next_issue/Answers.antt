@@ -26,10 +26,12 @@ returns-else-issues_none-clause-picked c = λ last some over.
     let plan = c.args.core.now.plan in
     let s = c.args.core.now.state in
     each c.first_issue_if.result (λ (mv : Move). IsPicked c.args.rule c.args.held plan s (Some last) mv)
-    (λ mv is. issue_picked c.args.rule c.args.held plan s last mv c.first_issue_if.result (c.issues_none.ensures.unheld c.if-issues_none.false) c.first_issue_if.ensures is some over)
+    (λ mv is. issue_picked c.args.rule c.args.held plan s last mv c.first_issue_if.result
+    (c.issues_none.ensures.unheld c.if-issues_none.false) c.first_issue_if.ensures is some over)
 
 pub returns-else-issues_none-clause-none : goal.returns-else-issues_none-clause-none
 returns-else-issues_none-clause-none c = λ none last some over.
     let plan = c.args.core.now.plan in
     let few : plan.stages ≤ 32 = c.know_stages.ensures.few in
-    issue_none c.args.rule c.args.held plan c.args.core.now.state last c.first_issue_if.result few (c.issues_none.ensures.unheld c.if-issues_none.false) c.first_issue_if.ensures none some over
+    issue_none c.args.rule c.args.held plan c.args.core.now.state last c.first_issue_if.result few
+    (c.issues_none.ensures.unheld c.if-issues_none.false) c.first_issue_if.ensures none some over
