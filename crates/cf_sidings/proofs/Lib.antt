@@ -1,5 +1,9 @@
 pub mod Last
 pub mod Empty
-pub mod Held
+pub mod Bits
+pub mod Small
+pub mod Changed
+pub mod Taken
+pub mod Moving
 pub mod Permitted
 pub mod Shape

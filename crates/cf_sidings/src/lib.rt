@@ -4,6 +4,7 @@
 mod access;
 mod siding;
 mod sidings;
+mod words;
 
 pub use cf_bind::Op;
 pub use sidings::Sidings;

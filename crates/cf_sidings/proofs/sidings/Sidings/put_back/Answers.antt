@@ -1,8 +1,0 @@
-use Rattle.std.proofs.Common.{◌∙◌, length, map, ap}
-use Rattle.cf_sidings.proofs.Shape.{lengths-set}
-use Rattle.cf_sidings.proofs.sidings.Sidings.put_back.Goals as goal
-
--- the sidings keep their numbers of cells
-pub returns-clause-cells : goal.returns-clause-cells
-returns-clause-cells c = lengths-set c.self.inside.list.items c.args.k c.index_mut.result.now c.set.new.self c.index_mut.ensures.value c.set.ensures.count
-    ∙ ap (map length) c.self.view_is
