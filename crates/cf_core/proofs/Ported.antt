@@ -19,7 +19,11 @@ use Rattle.cf_semantics.specs.state.Options.{on}
 use Rattle.cf_semantics.specs.state.State.{State, siding_at}
 use Rattle.cf_sidings.specs.Sidings.{CanAccess, IsReadyOperation, last_in}
 use Rattle.cf_core.specs.Processors.{IsProcessor, IsOp}
+use Rattle.cf_core.specs.Stations.{station_of}
+use Rattle.cf_core.specs.declared.stations.SidingStages.{SidingStages}
+use Rattle.cf_core.specs.declared.stations.Station.{Station}
 use Rattle.cf_core.proofs.Berths.{length-siding}
+use Rattle.cf_core.proofs.Tabled.{found-none, found-site}
 
 -- Memory has a siding, at whose end the port is
 pub memory-port : (plan : Plan) → IsAccepted plan → siding_of plan MemoryClass ≡ Some (port plan)
@@ -61,3 +65,15 @@ port-ready plan s k sidings mem h e at same kept = rw (at, same, kept) (ready_la
     (last-all (IsOp plan (bounds_of s.mem) (port plan)) (siding_at s (port plan)) (h.ops (port plan))) e)
 
 pub ruleset ported = (port-cells, siding-cells, port-ready)
+
+-- its number, by the table of stations
+pub site-port : (plan : Plan) (station : Station) (site : SidingStages) → station ≡ station_of plan MemoryClass → station.siding ≡ Some site →
+    site.number ≡ port plan
+unfolding port
+site-port plan station site e here = rw (found-site plan MemoryClass station site e here).siding refl
+
+pub none-port : (plan : Plan) (station : Station) → station ≡ station_of plan MemoryClass → station.siding ≡ None → 0 ≡ port plan
+unfolding port
+none-port plan station e here = rw (found-none plan MemoryClass station e here) refl
+
+pub ruleset port_number = (site-port, none-port)

@@ -20,7 +20,7 @@ impl Processor {
 }
 
 impl Core {
-    /// Whether any siding holds an operation. Each siding counts its own, so that no cell is looked at.
+    /// Whether any siding holds an operation.
     #[inline(always)]
     pub fn holds_operations(&self) -> bool
         ensures { result ≡ list_any (list_any is_some) self.now.state.sidings }

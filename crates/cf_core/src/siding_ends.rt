@@ -48,10 +48,13 @@ impl Processor {
 
     /// The number of Memory's siding, at whose end the port to memory is.
     #[inline(always)]
-    #[tactic(auto, unfolding(cf_semantics::specs::state::Layouts::port))]
+    #[tactic(auto, using(crate::proofs::Ported::port_number))]
     pub(crate) fn port(&self) -> u32
         ensures { result ≡ port_of self.now.plan }
     {
-        self.layout.siding_of(Class::Memory).unwrap_or(0)
+        match self.station(Class::Memory).siding {
+            Some(site) => site.number,
+            None => 0,
+        }
     }
 }

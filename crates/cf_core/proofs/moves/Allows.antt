@@ -1,5 +1,5 @@
 -- What the rows of the moves at the ends and within the sidings test, each as one Boolean.
-use Rattle.std.proofs.Common.{◌≡◌, ℕ, zero, suc, ◌+◌, ◌<◌, ◌≤◌, List, [], ◌∷◌, Option, Some, None, Bool, true, false, refl, sym, length, arith}
+use Rattle.std.proofs.Common.{◌≡◌, ℕ, zero, suc, ◌∙◌, ◌+◌, ◌/◌, ◌%◌, ◌<◌, ◌≤◌, List, [], ◌∷◌, Option, Some, None, Bool, true, false, refl, sym, length, arith}
 use Rattle.std.specs.Prelude.{◌&&◌, ◌||◌, not, nat_lt, slice_get}
 use Rattle.std.proofs.lemmas.Bool.Decides.{nat_tests}
 use Rattle.cf_bind.specs.declared.cell.Cell.{Cell}
@@ -17,6 +17,9 @@ use Rattle.cf_semantics.specs.state.Options.{on, is_some}
 use Rattle.cf_semantics.specs.state.Passengers.{kind}
 use Rattle.cf_semantics.specs.state.State.{State, cell_at, siding_at}
 use Rattle.cf_stages.specs.Changes.{is_full_at, packet_at, passenger_at}
+use Rattle.cf_layout.specs.Words.{has_bit}
+use Rattle.cf_layout.proofs.Words.{no_bits}
+use Rattle.cf_sidings.specs.Sidings.{slides_on}
 use Rattle.cf_core.specs.Marks.{row_allows}
 use Rattle.cf_core.specs.Masks.{is_allowed}
 use Rattle.cf_core.specs.Processors.{IsProcessor}
@@ -147,4 +150,14 @@ pub ruleset exit_free = (exit-free)
 
 pub ruleset access_free = (access-free)
 
-pub ruleset slide_free = (slide-free)
+-- the cells from which operations can move on, where the processor goes on
+pub slide-bit : (plan : Plan) (s : State) (w : ℕ) → (not (is_some s.ending) && not s.failed) ≡ true → ((j : ℕ) → has_bit w j ≡ slides_on s.sidings j) → (j : ℕ) →
+    has_bit w j ≡ is_allowed plan s (Slide (j / 8) (j % 8))
+unfolding slides_on
+slide-bit plan s w on bits j = bits j ∙ sym (allowed-is plan s (Slide (j / 8) (j % 8)) ∙ rw on (slide-free plan s (j / 8) (j % 8)))
+
+-- and where it does not
+pub slide-none : (plan : Plan) (s : State) → (not (is_some s.ending) && not s.failed) ≡ false → (j : ℕ) → has_bit 0 j ≡ is_allowed plan s (Slide (j / 8) (j % 8))
+slide-none plan s off j = no_bits j ∙ sym (allowed-is plan s (Slide (j / 8) (j % 8)) ∙ rw off refl)
+
+pub ruleset sliding = (slide-bit, slide-none)

@@ -1,9 +1,9 @@
 //! Slide: the operation in a cell of a siding moves to the next cell.
 
-ghost use Rattle.std.specs.Prelude.{◌≡◌, ◌<◌, length, None};
+ghost use Rattle.std.specs.Prelude.{◌≡◌, ℕ, ◌/◌, ◌%◌, None};
 ghost use Rattle.cf_bind.specs.declared.moves.Move.TheVariants as mv;
+ghost use Rattle.cf_layout.specs.Words.{has_bit};
 ghost use Rattle.cf_semantics.specs.moves.Bars.{row_bar};
-ghost use Rattle.cf_core.specs.Marks.{row_allows};
 ghost use Rattle.cf_core.specs.Masks.{is_allowed};
 ghost use Rattle.cf_core.specs.Processors.{IsProcessor, after_move};
 
@@ -29,19 +29,6 @@ impl Processor {
         ])
     }
 
-    /// Whether no test in the row of Slide holds; it does not say which one does.
-    #[inline(always)]
-    #[tactic(auto, using(crate::proofs::moves::Allows::slide_free))]
-    fn slides(&self, k: u32, c: u32) -> bool
-        requires facts { IsProcessor self.now.plan self.now.state }
-        requires siding { k < length self.now.plan.sidings }
-        ensures { result ≡ row_allows self.now.plan self.now.state (mv.Slide k c) }
-    {
-        let cells = self.sidings.siding(k);
-        let from = c as usize;
-        from + 1 < cells.len() && cells[from].is_some() && cells[from + 1].is_none()
-    }
-
     /// The operation in the cell of a siding moves to the next one.
     #[inline(never)]
     #[tactic(auto, unfolding(cf_sidings::specs::Sidings::moved_on, cf_semantics::specs::moves::Moves::moved))]
@@ -54,14 +41,17 @@ impl Processor {
 }
 
 impl Core {
-    /// Whether Slide is allowed from the cell of the siding; both are counted from 0.
+    /// The cells from which Slide is allowed: bit 8k + c for cell c of siding k, both counted from 0.
     #[inline(always)]
-    #[tactic(auto, using(crate::proofs::moves::Allows::allowing))]
-    pub fn may_slide(&self, k: u32, c: u32) -> bool
-        requires { k < length self.now.plan.sidings }
-        ensures { result ≡ is_allowed self.now.plan self.now.state (mv.Slide k c) }
+    #[tactic(auto, using(crate::proofs::moves::Allows::sliding))]
+    pub fn slides(&self) -> u64
+        ensures { (j : ℕ) → has_bit result j ≡ is_allowed self.now.plan self.now.state (mv.Slide (j / 8) (j % 8)) }
     {
         let processor = &self.processor;
-        processor.goes_on() && processor.slides(k, c)
+        if processor.goes_on() {
+            processor.sidings.sliding()
+        } else {
+            0
+        }
     }
 }
