@@ -57,7 +57,7 @@ cell_none (o ∷ ops) zero e = (both_false (is_some o) (list_any is_some ops) e)
 cell_none (o ∷ ops) (suc c) e = cell_none ops c (both_false (is_some o) (list_any is_some ops) e).1
 
 -- so the moves are barred
-barred_by : (ended failed : Bool) (b : Option Bar) → is_some b ≡ true → not (is_some (first ended Halted (first failed Failed b))) ≡ false
+pub barred_by : (ended failed : Bool) (b : Option Bar) → is_some b ≡ true → not (is_some (first ended Halted (first failed Failed b))) ≡ false
 barred_by true failed b e = refl
 barred_by false true b e = refl
 barred_by false false b e = rw e refl
@@ -74,7 +74,7 @@ slide_off : (plan : Plan) (s : State) (k c : ℕ) → list_any is_some (siding_a
 unfolding bar
 slide_off plan s k c none = barred_by (is_some s.ending) s.failed _ (slide_row (siding_at s k) c (cell_none (siding_at s k) c none))
 
-access_off : (plan : Plan) (s : State) → list_any is_some (siding_at s (port plan)) ≡ false → is_allowed plan s Access ≡ false
+pub access_off : (plan : Plan) (s : State) → list_any is_some (siding_at s (port plan)) ≡ false → is_allowed plan s Access ≡ false
 unfolding bar
 access_off plan s none = barred_by (is_some s.ending) s.failed _ (rw (last_none (siding_at s (port plan)) none) refl)
 

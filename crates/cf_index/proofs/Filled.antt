@@ -1,5 +1,5 @@
 -- The words that are filled bit by bit, and the moves that they list.
-use Rattle.std.proofs.Common.{◌≡◌, ◌∙◌, sym, refl, ap, ℕ, zero, suc, ◌+◌, ◌-◌, ◌*◌, ◌/◌, ◌%◌, ◌<◌, ◌≤◌, List, [], ◌∷◌, ◌++◌, length, map, All, Option, Bool, true, false, nat_lt, arith}
+use Rattle.std.proofs.Common.{◌≡◌, ◌∙◌, sym, refl, ap, ℕ, zero, suc, ◌+◌, ◌-◌, ◌*◌, ◌/◌, ◌%◌, ◌<◌, ◌≤◌, List, [], ◌∷◌, ◌++◌, length, map, All, Option, None, Bool, true, false, nat_lt, arith}
 use Rattle.std.specs.Prelude.{◌&&◌, filter, slice_get, unwrap_or}
 use Rattle.std.proofs.lemmas.Bool.Decides.{nat_tests}
 use Rattle.std.proofs.lemmas.List.{map-append, append_assoc}
@@ -7,22 +7,22 @@ use Rattle.std.proofs.lemmas.List.Elements.{filter-append, All-tail}
 use Rattle.std.proofs.lemmas.Option.{slice_get_past}
 use Rattle.cf_layout.specs.Layout.{Plan, SidingPlan, no_siding, cells_of}
 use Rattle.cf_layout.specs.Words.{has_bit}
-use Rattle.cf_layout.proofs.Words.{no_bits}
+use Rattle.cf_bind.specs.declared.cell.Op.{Op}
 use Rattle.cf_bind.specs.declared.moves.Move.{Move}
 use Rattle.cf_bind.specs.declared.moves.Move.TheVariants.{Climb, Fall, Meet, Execute, Send, Launch, Slide, Access, Recover, Leave, Exit, Serve}
-use Rattle.cf_semantics.specs.state.State.{State}
+use Rattle.cf_semantics.specs.moves.Bars.{bar, slide_bar}
+use Rattle.cf_semantics.specs.state.Options.{is_some}
+use Rattle.cf_semantics.specs.state.State.{State, siding_at}
 use Rattle.cf_semantics.specs.moves.Candidates.{counted_from, at_stages, slides_from, all_moves, candidates}
 use Rattle.cf_core.specs.Processors.{IsProcessor}
+use Rattle.cf_core.proofs.Berths.{length-siding}
 use Rattle.cf_index.specs.Places.{set_places}
 use Rattle.cf_index.specs.declared.passing.Passing.{Passing}
 use Rattle.cf_index.specs.declared.leaving.Leaving.{Leaving}
 use Rattle.cf_index.specs.Listed.{flagged, at_word, slide_at, slides_of, passing_moves, leaving_moves}
 use Rattle.cf_index.specs.Allowed.{is_allowed, HasStages, all_entering, all_passing, all_leaving}
+use Rattle.cf_index.proofs.EmptySidings.{barred_by}
 use Rattle.cf_index.proofs.Counted.{counted_split, filter_none, filter_chosen}
-
--- before any siding was visited no bit of the word is set
-pub none_of_any : (j : ℕ) (b : Bool) → has_bit 0 j ≡ (nat_lt (j / 8) 0 && b)
-none_of_any j b = let e : nat_lt (j / 8) 0 ≡ false = grind (arith, nat_tests) in rw (no_bits j, e) refl
 
 -- the moves of a word over the stages
 pub stages_chosen : (plan : Plan) (s : State) (kind : ℕ → Move) (w : ℕ) → plan.stages ≤ 32 → HasStages plan s kind w →
@@ -98,40 +98,38 @@ within p w k (suc n) (siding ∷ sidings) few small has =
     rw e (filter-append p (map (Slide k) (counted_from 0 (siding.cells - 1))) (slides_from (suc k) sidings)
     ∙ rw (first, rest) (sym (ap (map slide_at) right ∙ map-append slide_at low high)))
 
--- a siding that does not exist has no cells
-no_cells : (sidings : List SidingPlan) (m : ℕ) → length sidings ≤ m → cells_in sidings m ≡ 0
-unfolding cells_in
-no_cells sidings m past = ap (λ (o : Option SidingPlan). (unwrap_or o no_siding).cells) (slice_get_past sidings m past)
+-- no operation moves on from the last cell of a siding
+past_row : (ops : List (Option Op)) (c : ℕ) → slice_get ops (c + 1) ≡ None → is_some (slide_bar ops c) ≡ true
+past_row ops c e = rw e refl
 
-counted_siding : (sidings : List SidingPlan) (n m c : ℕ) (there : Bool) → nat_lt m n ≡ there → (b : Bool) → length sidings ≤ n →
-    (there && (nat_lt c (cells_in sidings m - 1) && b)) ≡ (nat_lt c (cells_in sidings m - 1) && b)
-counted_siding sidings n m c true e b few = refl
-counted_siding sidings n m c false e b few =
-    let z = no_cells sidings m (grind (arith, nat_tests)) in
-    let off : nat_lt c (0 - 1) ≡ false = grind (arith, nat_tests) in
-    rw (z, off) refl
+slide_within : (plan : Plan) (s : State) (k c : ℕ) (there : Bool) → nat_lt c (cells_of plan k - 1) ≡ there → IsProcessor plan s →
+    is_allowed plan s (Slide k c) ≡ (there && is_allowed plan s (Slide k c))
+unfolding bar
+slide_within plan s k c true e p = refl
+slide_within plan s k c false e p =
+    let n = length-siding plan s k p in
+    let past : length (siding_at s k) ≤ c + 1 = grind (arith, nat_tests) in
+    barred_by (is_some s.ending) s.failed _ (past_row (siding_at s k) c (slice_get_past (siding_at s k) (c + 1) past))
 
 -- the cells of a word, at the sidings of a layout
-cells_there : (plan : Plan) (s : State) (w n m c : ℕ) → length plan.sidings ≤ n → c < 8 →
-    ((j : ℕ) → has_bit w j ≡ (nat_lt (j / 8) n && (nat_lt (j % 8) (cells_of plan (j / 8) - 1) && is_allowed plan s (slide_at j)))) →
+cells_there : (plan : Plan) (s : State) (w m c : ℕ) → IsProcessor plan s → c < 8 → ((j : ℕ) → has_bit w j ≡ is_allowed plan s (slide_at j)) →
     has_bit w (8 * (0 + m) + c) ≡ (nat_lt c (cells_in plan.sidings m - 1) && is_allowed plan s (Slide (0 + m) c))
 unfolding cells_in cells_of
-cells_there plan s w n m c few small has =
+cells_there plan s w m c p small has =
     let z : 0 + m ≡ m = omega arith in
     let q : (8 * m + c) / 8 ≡ m = omega arith in
     let r : (8 * m + c) % 8 ≡ c = omega arith in
     let h = rw (q, r) at (has (8 * m + c)) in
-    rw z (h ∙ counted_siding plan.sidings n m c (nat_lt m n) refl (is_allowed plan s (Slide m c)) few)
+    rw z (h ∙ slide_within plan s m c (nat_lt c (cells_of plan m - 1)) refl p)
 
 -- what is allowed within the sidings
-pub slides_chosen : (plan : Plan) (s : State) (w n : ℕ) → IsProcessor plan s → n ≡ length plan.sidings →
-    ((j : ℕ) → has_bit w j ≡ (nat_lt (j / 8) n && (nat_lt (j % 8) (cells_of plan (j / 8) - 1) && is_allowed plan s (slide_at j)))) →
+pub slides_chosen : (plan : Plan) (s : State) (w : ℕ) → IsProcessor plan s → ((j : ℕ) → has_bit w j ≡ is_allowed plan s (slide_at j)) →
     slides_of w ≡ filter (is_allowed plan s) (slides_from 0 plan.sidings)
 unfolding slides_of set_places
-slides_chosen plan s w n p e has =
+slides_chosen plan s w p has =
     let a = p.accepted in
     sym (within (is_allowed plan s) w 0 8 plan.sidings a.few_sidings (λ k d inside. (a.sidings k d inside).cells.1)
-    (λ m c small. cells_there plan s w n m c (omega arith) small has))
+    (λ m c small. cells_there plan s w m c p small has))
 
 -- the list of all moves, by its parts
 all_parts : (plan : Plan) → all_moves plan ≡ all_entering ++ (all_passing plan ++ (slides_from 0 plan.sidings ++ all_leaving plan))

@@ -1,59 +1,29 @@
 //! Computing the candidates from a processor.
 
-ghost use Rattle.std.specs.Prelude.{◌≡◌, ℕ, ◌+◌, ◌-◌, ◌*◌, ◌/◌, ◌%◌, ◌<◌, ◌≤◌, ◌&&◌, ◌||◌, filter, length, nat_eq, nat_lt};
-ghost use Rattle.cf_layout.specs.Layout.{cells_of};
-ghost use Rattle.cf_layout.specs.Words.{has_bit};
+ghost use Rattle.std.specs.Prelude.{◌≡◌, filter};
 ghost use Rattle.cf_semantics.specs.moves.Candidates.{candidates, slides_from};
 ghost use Rattle.cf_core.specs.Masks.{masks_of};
 ghost use Rattle.cf_index.specs.Allowed.{all_entering, all_leaving, all_passing, is_allowed, passing_of, withheld};
 ghost use Rattle.cf_index.specs.GuessRules.{guided, keeps_move};
-ghost use Rattle.cf_index.specs.Listed.{entering_moves, leaving_moves, passing_moves, slide_at, slides_of};
+ghost use Rattle.cf_index.specs.Listed.{entering_moves, leaving_moves, passing_moves, slides_of};
 
-use crate::bits::with_bit;
 use crate::candidates::Candidates;
 use crate::entering::Entering;
 use crate::guiding::guided;
+use crate::idle::accesses;
 use crate::leaving::Leaving;
 use crate::passing::Passing;
 use crate::stages::{climbs, executes, falls, goes_on, know_stages, launches, meets, sends};
 use cf_core::{Core, Masks};
 use run_options::GuessRule;
 
-/// How many cells a siding has: 1 to 8. There are 8 sidings at most.
-#[inline(always)]
-fn cells(core: &Core, k: u32) -> u32
-    requires { k < length core.now.plan.sidings }
-    ensures cells { result ≡ cells_of core.now.plan k }
-    ensures some { 1 ≤ result }
-    ensures few { result ≤ 8 }
-    ensures few_sidings { k < 8 }
-{
-    core.layout().cells_of(k)
-}
-
-/// The word with the cells of one more siding from which Slide is allowed: bit 8k + c for siding k, cell c.
-#[inline(always)]
-fn with_siding(core: &Core, k: u32, word: u64) -> u64
-    requires { k < length core.now.plan.sidings }
-    ensures { (j : ℕ) → has_bit result j ≡ ((nat_eq (j / 8) k && (nat_lt (j % 8) (cells_of core.now.plan k - 1) && is_allowed core.now.plan core.now.state (slide_at j))) || has_bit word j) }
-{
-    let mut word = word;
-    for c in 0..cells(core, k) - 1 {
-        word = with_bit(word, 8 * k + c, core.may_slide(k, c));
-    }
-    word
-}
-
 /// The cells from which Slide is allowed.
 #[inline(always)]
 pub(crate) fn slides(core: &Core) -> u64
     ensures { slides_of result ≡ filter (is_allowed core.now.plan core.now.state) (slides_from 0 core.now.plan.sidings) }
 {
-    let mut word = 0;
-    for k in 0..core.layout().siding_count() {
-        word = with_siding(core, k, word);
-    }
-    word
+    let _layout = core.layout();
+    core.slides()
 }
 
 /// The candidates by which something enters; of the Issues, those that the guess rule keeps.
@@ -106,7 +76,7 @@ pub(crate) fn leaving(core: &Core, masks: &Masks) -> Leaving
 {
     know_stages(core);
     Leaving {
-        access: core.may_access(),
+        access: accesses(core),
         recover: masks.recover,
         leave: core.may_leave(),
         exit: core.may_exit(),

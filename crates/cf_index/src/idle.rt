@@ -4,6 +4,8 @@ ghost use Rattle.std.specs.List.{list_any};
 ghost use Rattle.std.specs.Prelude.{◌≡◌, ℕ, false, find, not, true};
 ghost use Rattle.cf_semantics.specs.state.Options.{is_some};
 ghost use Rattle.cf_semantics.specs.state.State.{siding_at};
+ghost use Rattle.cf_bind.specs.declared.moves.Move.TheVariants as mv;
+ghost use Rattle.cf_index.specs.Allowed.{is_allowed};
 ghost use Rattle.cf_index.specs.PickedFrom.{from_leave, outward_on};
 ghost use Rattle.cf_index.specs.Ranks.{is_past};
 
@@ -19,6 +21,18 @@ pub(crate) fn are_empty(core: &Core) -> bool
     ensures each { result ≡ true → (k : ℕ) → list_any is_some (siding_at core.now.state k) ≡ false }
 {
     !core.holds_operations()
+}
+
+/// Whether Access is allowed. Where the sidings are empty nothing else is looked at.
+#[inline(always)]
+pub(crate) fn accesses(core: &Core) -> bool
+    ensures { result ≡ is_allowed core.now.plan core.now.state mv.Access }
+{
+    if are_empty(core) {
+        false
+    } else {
+        core.may_access()
+    }
 }
 
 impl Candidates {

@@ -17,6 +17,7 @@ use crate::candidates::Candidates;
 use crate::entering::Entering;
 use crate::fill::{leaving, passing, slides};
 use crate::guiding::{guided, own_guess};
+use crate::idle::are_empty;
 use crate::leaving::Leaving;
 use crate::passing::Passing;
 use crate::plainly::issues_any;
@@ -171,13 +172,16 @@ fn visit_passing<V: Visitor>(core: &Core, masks: &Masks, visitor: &mut V)
     passing.visit(visitor);
 }
 
-/// Shows the allowed moves within the sidings.
+/// Shows the allowed moves within the sidings: none where these are empty.
 #[inline(always)]
 #[tactic(auto, using(crate::proofs::Parts::lengths), unfolding(crate::specs::Listed::slides_of))]
 fn visit_slides<V: Visitor>(core: &Core, visitor: &mut V)
     ensures shown { visitor.new ≡ fold V.after visitor.old (filter (is_allowed core.now.plan core.now.state) (slides_from 0 core.now.plan.sidings)) }
     ensures few { length (filter (is_allowed core.now.plan core.now.state) (slides_from 0 core.now.plan.sidings)) ≤ most_of_kind }
 {
+    if are_empty(core) {
+        return;
+    }
     let slides = slides(core);
     let _count = count(slides);
     visit_word(visitor, Spread::Slide, slides);

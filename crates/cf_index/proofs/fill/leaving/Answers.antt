@@ -8,5 +8,5 @@ returns c =
     let plan = c.args.core.now.plan in
     let s = c.args.core.now.state in
     let few : plan.stages ≤ 32 = c.know_stages.ensures.few in
-    leaving_chosen plan s _ few c.may_access.ensures (recover-stages plan s c.args.masks.now c.requires) c.may_leave.ensures c.may_exit.ensures
+    leaving_chosen plan s _ few c.accesses.ensures (recover-stages plan s c.args.masks.now c.requires) c.may_leave.ensures c.may_exit.ensures
     c.may_serve.ensures
