@@ -1,9 +1,7 @@
 -- If no siding has an operation, no Slide, Access or Recover is allowed.
-use Rattle.std.proofs.Common.{◌≡◌, ◌∙◌, sym, refl, ap, subst, ℕ, zero, suc, ◌+◌, ◌-◌, ◌<◌, ◌≤◌, List, [], ◌∷◌, ◌++◌, length, map, Bool, true, false, nat_lt, Option, Some, None, arith}
+use Rattle.std.proofs.Common.{◌≡◌, ◌∙◌, sym, refl, ap, ℕ, zero, suc, ◌+◌, ◌-◌, List, [], ◌∷◌, ◌++◌, map, Bool, true, false, Option, Some, None}
 use Rattle.std.specs.List.{list_any}
 use Rattle.std.specs.Prelude.{◌&&◌, ◌||◌, filter, find, not, slice_get}
-use Rattle.std.proofs.lemmas.Bool.Decides.{nat_tests}
-use Rattle.std.proofs.lemmas.List.{length-map}
 use Rattle.std.proofs.lemmas.List.Elements.{filter-append}
 use Rattle.cf_layout.specs.Layout.{Plan, SidingPlan, siding_of}
 use Rattle.cf_bind.specs.declared.cell.Cell.{Cell}
@@ -20,7 +18,6 @@ use Rattle.cf_semantics.specs.state.Layouts.{port, recovers}
 use Rattle.cf_semantics.specs.state.Options.{is_some, on}
 use Rattle.cf_semantics.specs.state.Passengers.{kind}
 use Rattle.cf_semantics.specs.state.State.{State, cell_at, siding_at}
-use Rattle.cf_core.specs.Processors.{IsProcessor}
 use Rattle.cf_index.specs.declared.rank.Rank.{Rank}
 use Rattle.cf_index.specs.Allowed.{all_leaving, is_allowed}
 use Rattle.cf_index.specs.PickedFrom.{from_leave, outward_on}

@@ -1,11 +1,11 @@
--- The candidates of a small processor as the bits of one word, part by part.
-use Rattle.std.proofs.Common.{◌≡◌, ◌∙◌, sym, refl, ap, ℕ, zero, suc, ◌+◌, ◌*◌, ◌/◌, ◌%◌, ◌^◌, ◌<◌, ◌≤◌, List, [], ◌∷◌, ◌++◌, length, map, append_assoc, append-nil, Bool, true, false, Some, nat_eq, nat_lt, arith}
-use Rattle.std.specs.Prelude.{◌&&◌, filter, slice_get, if◌then◌else◌}
+-- The candidates of a small processor as the bits of two words, part by part.
+use Rattle.std.proofs.Common.{◌≡◌, ◌∙◌, sym, refl, ap, ℕ, zero, suc, ◌+◌, ◌-◌, ◌*◌, ◌/◌, ◌%◌, ◌^◌, ◌<◌, ◌≤◌, List, [], ◌∷◌, ◌++◌, length, map, append_assoc, append-nil, Bool, true, false, Some, nat_lt, arith}
+use Rattle.std.specs.Prelude.{◌&&◌, ◌||◌, filter, slice_get, if◌then◌else◌}
 use mir.Val.{bool_byte}
 use Rattle.std.proofs.Math.Nat.{pow-le-pow_right}
 use Rattle.std.proofs.lemmas.Bool.Decides.{nat_tests}
 use Rattle.std.specs.List.{list_any}
-use Rattle.std.proofs.lemmas.List.{length-map, map-append}
+use Rattle.std.proofs.lemmas.List.{length-append, length-map, map-append}
 use Rattle.std.proofs.lemmas.List.Elements.{filter-append}
 use Rattle.std.proofs.lemmas.Option.{slice_get-map}
 use Rattle.run_options.specs.declared.guess_rule.GuessRule.{GuessRule}
@@ -14,17 +14,17 @@ use Rattle.cf_layout.specs.Words.{has_bit}
 use Rattle.cf_bind.specs.declared.passenger.Guess.TheVariants.{Next, Taken, Wait}
 use Rattle.cf_bind.specs.declared.moves.Move.{Move}
 use Rattle.cf_bind.specs.declared.moves.Move.TheVariants.{Issue, Emit, Climb, Fall, Meet, Execute, Send, Launch, Access, Recover, Leave, Exit, Serve}
-use Rattle.cf_semantics.specs.moves.Candidates.{at_stages, counted_from, held_back}
+use Rattle.cf_semantics.specs.moves.Candidates.{at_stages, counted_from, held_back, slides_from}
 use Rattle.cf_semantics.specs.state.Options.{is_some}
 use Rattle.cf_semantics.specs.state.State.{State, siding_at}
 use Rattle.cf_stages.proofs.Bits.{word-lt}
 use Rattle.cf_core.specs.declared.masks.Masks.{Masks}
 use Rattle.cf_core.specs.Masks.{masks_of}
 use Rattle.cf_index.specs.declared.passing.Passing.{Passing}
-use Rattle.cf_index.specs.Allowed.{HasStages, all_leaving, allowed_others, is_allowed, kept_issues, may_issue, passing_of, withheld, word_allowed}
+use Rattle.cf_index.specs.Allowed.{HasStages, all_leaving, all_passing, allowed_others, is_allowed, kept_issues, may_issue, passing_of, withheld, word_allowed}
 use Rattle.cf_index.specs.GuessRules.{guided, keeps_move}
 use Rattle.cf_index.specs.Listed.{at_word, flagged, passing_moves, slides_of}
-use Rattle.cf_index.specs.Packed.{FitsEight, IsPackable, packed_at, packed_from, packed_moves}
+use Rattle.cf_index.specs.Packed.{FitsEight, packed_at, packed_from, packed_moves, packed_with}
 use Rattle.cf_index.specs.Places.{set_places}
 use Rattle.cf_index.proofs.AllowedWords.{passing-moves}
 use Rattle.cf_index.proofs.Counted.{map_choice}
@@ -151,30 +151,40 @@ one_at : (packed_at (0 + 0) ≡ Issue Next) × (packed_at (1 + 0) ≡ Issue Take
 unfolding packed_at
 one_at = (refl, refl, refl, refl, refl, refl, refl, refl)
 
--- the bits of the moves within the stages, and those that follow them
-pub passing_joined : (p : Passing) (rest : ℕ) → FitsEight p →
-    packed_from 4 60 (p.climb + 256 * (p.fall + 256 * (p.meet + 256 * (p.execute + 256 * (p.send + 256 * (p.launch + 256 * rest))))))
-    ≡ passing_moves p ++ packed_from 52 12 rest
+-- the bits of the moves within the stages
+passing_low : (p : Passing) → FitsEight p →
+    packed_from 4 48 (p.climb + 256 * (p.fall + 256 * (p.meet + 256 * (p.execute + 256 * (p.send + 256 * (p.launch + 256 * 0)))))) ≡ passing_moves p
 unfolding passing_moves
-passing_joined p rest fits =
-    let launch = eight_joined Launch 44 12 p.launch rest launch_at fits.launch in
-    let send = eight_joined Send 36 20 p.send _ send_at fits.send in
-    let execute = eight_joined Execute 28 28 p.execute _ execute_at fits.execute in
-    let meet = eight_joined Meet 20 36 p.meet _ meet_at fits.meet in
-    let fall = eight_joined Fall 12 44 p.fall _ fall_at fits.fall in
-    let climb = eight_joined Climb 4 52 p.climb _ climb_at fits.climb in
+passing_low p fits =
+    let launch = eight_joined Launch 44 0 p.launch 0 launch_at fits.launch ∙ rw (from_none 52 0, append-nil) refl in
+    let send = eight_joined Send 36 8 p.send _ send_at fits.send in
+    let execute = eight_joined Execute 28 16 p.execute _ execute_at fits.execute in
+    let meet = eight_joined Meet 20 24 p.meet _ meet_at fits.meet in
+    let fall = eight_joined Fall 12 32 p.fall _ fall_at fits.fall in
+    let climb = eight_joined Climb 4 40 p.climb _ climb_at fits.climb in
     climb ∙ behind (at_word Climb p.climb) (
     fall ∙ behind (at_word Fall p.fall) (
     meet ∙ behind (at_word Meet p.meet) (
     execute ∙ behind (at_word Execute p.execute) (
-    send ∙ behind (at_word Send p.send) launch)))) ∙ simp append_assoc
+    send ∙ behind (at_word Send p.send) launch))))
   where
     behind : (xs : List Move) {ys zs : List Move} → ys ≡ zs → xs ++ ys ≡ xs ++ zs
     behind xs e = ap (λ (l : List Move). xs ++ l) e
 
--- Emit, and the bits that follow it
-pub emit_joined : (f : Bool) (rest : ℕ) → packed_from 3 61 (bool_byte f + 2 * rest) ≡ flagged f Emit ++ packed_from 4 60 rest
-emit_joined f rest = flag_joined Emit 3 60 f rest one_at.3
+pub passing_part : (p : Passing) (rest : ℕ) → FitsEight p →
+    packed_from 4 48 ((p.climb + 256 * (p.fall + 256 * (p.meet + 256 * (p.execute + 256 * (p.send + 256 * (p.launch + 256 * rest)))))) % 2 ^ 48) ≡ passing_moves p
+passing_part p rest fits =
+    let e : (p.climb + 256 * (p.fall + 256 * (p.meet + 256 * (p.execute + 256 * (p.send + 256 * (p.launch + 256 * rest)))))) % 2 ^ 48
+    ≡ p.climb + 256 * (p.fall + 256 * (p.meet + 256 * (p.execute + 256 * (p.send + 256 * (p.launch + 256 * 0)))))
+    = omega (arith, fits.climb, fits.fall, fits.meet, fits.execute, fits.send, fits.launch) in
+    ap (packed_from 4 48) e ∙ passing_low p fits
+
+-- and those that follow them
+pub passing_rest : (p : Passing) (rest : ℕ) → FitsEight p →
+    (p.climb + 256 * (p.fall + 256 * (p.meet + 256 * (p.execute + 256 * (p.send + 256 * (p.launch + 256 * rest)))))) / 2 ^ 48 ≡ rest
+passing_rest p rest fits = omega (arith, fits.climb, fits.fall, fits.meet, fits.execute, fits.send, fits.launch)
+
+pub ruleset passing_parts = (passing_part, passing_rest)
 
 -- the bits of each Issue
 pub issues_joined : (n t w : Bool) → packed_from 0 3 (bool_byte n + 2 * (bool_byte t + 2 * bool_byte w))
@@ -262,29 +272,29 @@ pub idle_joined : (plan : Plan) (s : State) (ends : ℕ) → ((k : ℕ) → list
 idle_joined plan s ends none e =
     joined 52 9 3 0 ends (512 * ends) (omega arith) (omega arith) ∙ rw (from_none 52 9) e ∙ sym (no_leaving plan s none)
 
-pub others_joined : (plan : Plan) (s : State) (emit : Bool) (p : Passing) (rest passes : ℕ) → IsPackable plan s →
-    emit ≡ is_allowed plan s Emit → p ≡ passing_of plan s → packed_from 52 12 rest ≡ filter (is_allowed plan s) (all_leaving plan) →
-    packed_from 4 60 passes ≡ passing_moves p ++ packed_from 52 12 rest → flagged emit Emit ++ packed_from 4 60 passes ≡ allowed_others plan s
-others_joined plan s emit p rest passes small emits words leaves all =
-    let few : plan.stages ≤ 32 = omega (arith, small.stages) in
+-- Emit, before the moves within the stages
+emit_low : (f : Bool) (passes : ℕ) → (bool_byte f + 2 * passes) % 2 ^ 49 ≡ bool_byte f + 2 * (passes % 2 ^ 48)
+emit_low true passes = omega arith
+emit_low false passes = omega arith
+
+pub stages_part : (plan : Plan) (s : State) (emit : Bool) (p : Passing) (passes : ℕ) → plan.stages ≤ 8 → emit ≡ is_allowed plan s Emit → p ≡ passing_of plan s →
+    packed_from 4 48 (passes % 2 ^ 48) ≡ passing_moves p → packed_from 3 49 ((bool_byte emit + 2 * passes) % 2 ^ 49)
+    ≡ filter (is_allowed plan s) (Emit ∷ []) ++ filter (is_allowed plan s) (all_passing plan)
+stages_part plan s emit p passes small emits words all =
+    let few : plan.stages ≤ 32 = omega (arith, small) in
     let passed = ap passing_moves words ∙ passing-moves plan s few in
-    rw (all, leaves, passed, flag_alone (is_allowed plan s) emit Emit emits, small.slides) refl
+    ap (packed_from 3 49) (emit_low emit passes) ∙ flag_joined Emit 3 48 emit (passes % 2 ^ 48) one_at.3
+    ∙ rw (all, passed, flag_alone (is_allowed plan s) emit Emit emits) refl
 
-pub no_slide : (w : ℕ) → nat_eq w 0 ≡ true → slides_of w ≡ []
-no_slide w none = let e : w ≡ 0 = grind (arith, nat_tests) in rw e slides_of-zero
+-- and what follows both
+pub leaving_part : (f : Bool) (passes rest : ℕ) → passes / 2 ^ 48 ≡ rest → (bool_byte f + 2 * passes) / 2 ^ 49 ≡ rest
+leaving_part true passes rest e = omega (arith, e)
+leaving_part false passes rest e = omega (arith, e)
 
--- and a word other than 0 has one
+-- a word other than 0 has a number
 has_some : (xs : List ℕ) (k : ℕ) → slice_get xs 0 ≡ Some k → 0 < length xs
 has_some [] k e = absurd (cc)
 has_some (x ∷ xs) k e = omega arith
-
-pub some_slide : (w : ℕ) (moves : List Move) → w < 2 ^ 64 → nat_eq w 0 ≡ false → slides_of w ≡ moves → moves ≡ [] → ⊥
-some_slide w moves small some are none =
-    let more : 0 < w = grind (arith, nat_tests) in
-    let l = lowest w more small in
-    let there = has_some (set_places 64 w) _ l in
-    let e = sym (length-slides_of w) ∙ ap length (are ∙ none) in
-    absurd (omega (arith, e, there))
 
 -- where no other move is a candidate, none is held back
 offered_by : (held any : Bool) (rule : GuessRule) (plan : Plan) (s : State) → any ≡ nat_lt 0 (length (allowed_others plan s)) →
@@ -307,9 +317,79 @@ any_others : (others : ℕ) (xs : List Move) → others < 2 ^ 61 → packed_from
 any_others zero xs small e = let n : length xs ≡ 0 = ap length (sym e ∙ from_none 3 61) in grind (arith, nat_tests)
 any_others (suc k) xs small e = let n = some_move 0 (suc k) small (omega arith) in let l = ap length e in grind (arith, nat_tests)
 
--- so what is offered is the word of both
-pub offered : (held : Bool) (rule : GuessRule) (plan : Plan) (s : State) (issues others : ℕ) → issues < 8 → others < 2 ^ 61 →
-    packed_from 0 3 issues ≡ (if held && nat_lt 0 others then [] else kept_issues rule plan s) → packed_from 3 61 others ≡ allowed_others plan s →
-    packed_moves (issues + 8 * others) ≡ withheld held (guided rule plan s)
-offered held rule plan s issues others few small enter rest =
-    all_joined issues others few ∙ rw (enter, rest) (offered_by held (nat_lt 0 others) rule plan s (any_others others (allowed_others plan s) small rest))
+any_slides : (slides : ℕ) (xs : List Move) → slides < 2 ^ 64 → slides_of slides ≡ xs → nat_lt 0 slides ≡ nat_lt 0 (length xs)
+any_slides zero xs small e = let n : length xs ≡ 0 = ap length (sym e ∙ slides_of-zero) in grind (arith, nat_tests)
+any_slides (suc k) xs small e =
+    let l = lowest (suc k) (omega arith) small in
+    let there = has_some (set_places 64 (suc k)) _ l in
+    let n = sym (length-slides_of (suc k)) ∙ ap length e in
+    let some : 0 < length xs = omega (arith, n, there) in
+    grind (arith, nat_tests)
+
+-- The two words --
+
+low_moves : (w : ℕ) → w < 2 ^ 52 → packed_moves w ≡ packed_from 0 52 w
+low_moves w small = from_first w ∙ joined 0 52 12 w 0 w (omega arith) (omega arith) ∙ rw (from_none 52 12, append-nil) refl
+
+high_moves : (w : ℕ) → packed_moves (w - w % 2 ^ 52) ≡ packed_from 52 12 (w / 2 ^ 52)
+high_moves w = from_first (w - w % 2 ^ 52) ∙ joined 0 52 12 0 (w / 2 ^ 52) (w - w % 2 ^ 52) (omega arith) (omega arith) ∙ rw (from_none 0 52) refl
+
+parted : (w slides : ℕ) → packed_with w slides ≡ packed_from 0 52 (w % 2 ^ 52) ++ (slides_of slides ++ packed_from 52 12 (w / 2 ^ 52))
+unfolding packed_with
+parted w slides = rw (low_moves (w % 2 ^ 52) (omega arith), high_moves w) refl
+
+-- without a Slide they are the moves of the first word
+pub without_slides : (w slides : ℕ) → slides ≡ 0 → packed_with w slides ≡ packed_moves w
+without_slides w slides none =
+    rw none (parted w 0 ∙ rw slides_of-zero (sym (from_first w ∙ joined 0 52 12 (w % 2 ^ 52) (w / 2 ^ 52) w refl refl)))
+
+-- how many they are
+pub length_with : (w slides : ℕ) → length (packed_moves w) + length (slides_of slides) ≡ length (packed_with w slides)
+unfolding packed_with
+length_with w slides =
+    let low = packed_moves (w % 2 ^ 52) in
+    let high = packed_moves (w - w % 2 ^ 52) in
+    let whole = ap length (without_slides w 0 refl) in
+    let a = length-append low (slides_of slides ++ high) in
+    let b = length-append (slides_of slides) high in
+    let c = length-append low (slides_of 0 ++ high) in
+    let d = length-append (slides_of 0) high in
+    let none = ap length slides_of-zero in
+    omega (arith, whole, a, b, c, d, none)
+
+pub ruleset parting = (without_slides, length_with)
+
+-- what is offered is both, after the Issues
+either_some : (a b c : ℕ) → (nat_lt 0 (a + c) || nat_lt 0 b) ≡ nat_lt 0 (a + (b + c))
+either_some a b c = grind (arith, nat_tests)
+
+any_word : (others slides : ℕ) (xs ss ls : List Move) → others < 2 ^ 61 → slides < 2 ^ 64 → packed_from 3 49 (others % 2 ^ 49) ≡ xs → slides_of slides ≡ ss →
+    packed_from 52 12 (others / 2 ^ 49) ≡ ls → (nat_lt 0 others || nat_lt 0 slides) ≡ nat_lt 0 (length xs + (length ss + length ls))
+any_word others slides xs ss ls small few stages sliding leaving =
+    let whole = joined 3 49 12 (others % 2 ^ 49) (others / 2 ^ 49) others refl refl ∙ rw (stages, leaving) refl in
+    let n = any_others others (xs ++ ls) small whole in
+    let m = any_slides slides ss few sliding in
+    rw (n, m, length-append xs ls) (either_some (length xs) (length ss) (length ls))
+
+pub offered : (held any : Bool) (rule : GuessRule) (plan : Plan) (s : State) (issues others slides : ℕ) → issues < 8 → others < 2 ^ 61 → slides < 2 ^ 64 →
+    any ≡ (nat_lt 0 others || nat_lt 0 slides) → packed_from 0 3 issues ≡ (if held && any then [] else kept_issues rule plan s) →
+    packed_from 3 49 (others % 2 ^ 49) ≡ filter (is_allowed plan s) (Emit ∷ []) ++ filter (is_allowed plan s) (all_passing plan) →
+    packed_from 52 12 (others / 2 ^ 49) ≡ filter (is_allowed plan s) (all_leaving plan) →
+    slides_of slides ≡ filter (is_allowed plan s) (slides_from 0 plan.sidings) →
+    packed_with (issues + 8 * others) slides ≡ withheld held (guided rule plan s)
+offered held any rule plan s issues others slides few small narrow some enter stages leaving sliding =
+    let q = is_allowed plan s in
+    let emits = filter q (Emit ∷ []) in
+    let passes = filter q (all_passing plan) in
+    let slide = filter q (slides_from 0 plan.sidings) in
+    let leaves = filter q (all_leaving plan) in
+    let r : (issues + 8 * others) % 2 ^ 52 ≡ issues + 8 * (others % 2 ^ 49) = omega arith in
+    let t : (issues + 8 * others) / 2 ^ 52 ≡ others / 2 ^ 49 = omega arith in
+    let low = joined 0 3 49 issues (others % 2 ^ 49) (issues + 8 * (others % 2 ^ 49)) (omega arith) (omega arith) in
+    let a = length-append emits (passes ++ (slide ++ leaves)) in
+    let b = length-append passes (slide ++ leaves) in
+    let c = length-append slide leaves in
+    let d = length-append emits passes in
+    let n : length (emits ++ passes) + (length slide + length leaves) ≡ length (emits ++ (passes ++ (slide ++ leaves))) = omega (arith, a, b, c, d) in
+    let more = some ∙ any_word others slides (emits ++ passes) slide leaves small narrow stages sliding leaving ∙ ap (nat_lt 0) n in
+    parted (issues + 8 * others) slides ∙ rw (r, t, low, enter, stages, leaving, sliding) (simp append_assoc) ∙ offered_by held any rule plan s more

@@ -52,6 +52,8 @@ pub of_slides : (w j i : ℕ) → Some j ≡ slice_get (set_places 64 w) i → S
 unfolding slides_of
 of_slides w j i e = rw (slice_get-map slide_at (set_places 64 w) i, ← e) refl
 
+pub ruleset length_slides = (length-slides_of)
+
 pub ruleset lengths = (length-append, length-at_word, length-slides_of)
 
 -- a word without a bit lists no move

@@ -1,13 +1,11 @@
--- The candidates of a small processor in one word of 64 bits: the move of each bit, in the order of all moves.
-use Rattle.std.specs.Prelude.{◌≡◌, ℕ, ◌+◌, ◌-◌, ◌/◌, ◌%◌, ◌<◌, ◌≤◌, List, [], map, filter, if◌then◌else◌, ◌==◌}
-use Rattle.cf_layout.specs.Layout.{Plan}
+-- The candidates of a small processor in two words of 64 bits: the move of each bit, in the order of all moves. One word is
+-- for the moves within the sidings, the other for all others.
+use Rattle.std.specs.Prelude.{ℕ, ◌+◌, ◌-◌, ◌/◌, ◌%◌, ◌^◌, ◌<◌, List, ◌++◌, map, if◌then◌else◌, ◌==◌}
 use Rattle.cf_bind.specs.declared.passenger.Guess.TheVariants as guess
 use Rattle.cf_bind.specs.declared.moves.Move.{Move}
 use Rattle.cf_bind.specs.declared.moves.Move.TheVariants.{Issue, Emit, Climb, Fall, Meet, Execute, Send, Launch, Access, Recover, Leave, Exit, Serve}
-use Rattle.cf_semantics.specs.moves.Candidates.{slides_from}
-use Rattle.cf_semantics.specs.state.State.{State}
 use Rattle.cf_index.specs.declared.passing.Passing.{Passing}
-use Rattle.cf_index.specs.Allowed.{is_allowed}
+use Rattle.cf_index.specs.Listed.{slides_of}
 use Rattle.cf_index.specs.Places.{set_places}
 
 -- bits 0 to 3: Issue by each guess, and Emit
@@ -33,6 +31,10 @@ packed_at k = grouped ((k + 4) / 8) ((k + 4) % 8 + 1) k
 unfoldable pub packed_moves : ℕ → List Move
 packed_moves w = map packed_at (set_places 64 w)
 
+-- the moves of a word and those within the sidings, which come after the moves of the bits below 52 and before the others
+unfoldable pub packed_with : ℕ → (slides : ℕ) → List Move
+packed_with w slides = packed_moves (w % 2 ^ 52) ++ (slides_of slides ++ packed_moves (w - w % 2 ^ 52))
+
 -- the moves of n bits from a place on
 unfoldable pub packed_from : (place : ℕ) → (n : ℕ) → ℕ → List Move
 packed_from place n w = map (λ j. packed_at (place + j)) (set_places n w)
@@ -45,8 +47,3 @@ pub record FitsEight (p : Passing) : Type 0 where
   pub execute : p.execute < 256
   pub send : p.send < 256
   pub launch : p.launch < 256
-
--- the layout has at most eight stages, and no Slide is allowed
-pub record IsPackable (plan : Plan) (s : State) : Type 0 where
-  pub stages : plan.stages ≤ 8
-  pub slides : filter (is_allowed plan s) (slides_from 0 plan.sidings) ≡ []

@@ -1,28 +1,33 @@
-//! The candidates of a small processor, in one word.
+//! The candidates of a small processor, in two words.
 
 ghost use Rattle.std.specs.Prelude.{◌≡◌, ℕ, ◌+◌, ◌-◌, ◌*◌, ◌/◌, ◌%◌, ◌^◌, ◌<◌, ◌≤◌, Some, length, slice_get};
-ghost use Rattle.cf_index.specs.Packed.{entering_at, leaving_at, packed_at};
+ghost use Rattle.cf_index.specs.Listed.{slides_of};
+ghost use Rattle.cf_index.specs.Packed.{entering_at, leaving_at, packed_at, packed_moves};
 
 use crate::bits::{count, nth};
 use cf_bind::{Guess, Move};
 use std::marker::Model;
 
-/// A list of moves of a layout with at most eight stages, none of them a Slide, in the order of all moves, as the bits
-/// of a word: Issue by each guess other than an address, and Emit; eight bits each for Climb, Fall, Meet, Execute, Send
-/// and Launch; Access, eight bits for Recover, Leave, Exit and Serve. Contracts see the list.
+/// A list of moves of a layout with at most eight stages, in the order of all moves, as the bits of two words. Contracts
+/// see the list.
 #[derive(Drop)]
 pub struct PackedCandidates {
+    /// All but the Slides: Issue by each guess other than an address, and Emit; eight bits each for Climb, Fall, Meet,
+    /// Execute, Send and Launch; from bit 52 on Access, eight bits for Recover, Leave, Exit and Serve.
     pub(crate) word: u64,
+
+    /// The Slides, which come before bit 52 of the other word: bit 8k + c for cell c of siding k.
+    pub(crate) slides: u64,
 }
 
 impl Model for PackedCandidates {
     ghost use Rattle.std.specs.Prelude.{List};
     ghost use Rattle.cf_bind.specs.declared.moves.Move.{Move};
-    ghost use Rattle.cf_index.specs.Packed.{packed_moves};
+    ghost use Rattle.cf_index.specs.Packed.{packed_with};
 
     ghost Value = { List Move };
 
-    ghost view = { λ c. packed_moves c.word };
+    ghost view = { λ c. packed_with c.word c.slides };
 }
 
 /// The move of one of the lowest four bits.
@@ -72,23 +77,92 @@ fn unpacked(place: u32) -> Move
     }
 }
 
+/// How many moves a word has.
+#[inline(always)]
+#[tactic(auto, using(crate::proofs::PackedWords::length_packed))]
+fn count_packed(word: u64) -> usize
+    ensures count { result ≡ length (packed_moves word) }
+    ensures most { result ≤ 64 }
+{
+    count(word)
+}
+
+/// The move of a word at this place, counted from 0.
+#[inline(always)]
+fn nth_packed(word: u64, i: usize) -> Move
+    requires { i < length (packed_moves word) }
+    ensures { Some result ≡ slice_get (packed_moves word) i }
+{
+    unpacked(nth(word, i))
+}
+
+/// How many Slides a word has.
+#[inline(always)]
+#[tactic(auto, using(crate::proofs::Parts::length_slides))]
+fn count_slides(slides: u64) -> usize
+    ensures count { result ≡ length (slides_of slides) }
+    ensures most { result ≤ 64 }
+{
+    count(slides)
+}
+
+/// The Slide of a word at this place, counted from 0.
+#[inline(always)]
+fn nth_slide(slides: u64, i: usize) -> Move
+    requires { i < length (slides_of slides) }
+    ensures { Some result ≡ slice_get (slides_of slides) i }
+{
+    let place = nth(slides, i);
+    Move::Slide(place / 8, place % 8)
+}
+
 impl PackedCandidates {
     /// How many there are.
     #[inline(always)]
-    #[tactic(auto, using(crate::proofs::PackedWords::length_packed))]
+    #[tactic(auto, using(crate::proofs::PackedWords::parting))]
     pub fn len(&self) -> usize
         ensures count { result ≡ length self.now }
-        ensures most { result ≤ 64 }
+        ensures most { result ≤ 128 }
     {
-        count(self.word)
+        if self.slides == 0 {
+            count_packed(self.word)
+        } else {
+            count_packed(self.word) + count_slides(self.slides)
+        }
     }
 
     /// The move at this place, counted from 0.
     #[inline(always)]
+    #[tactic(auto, using(crate::proofs::PackedWords::parting))]
     pub fn pick(&self, i: usize) -> Move
         requires { i < length self.now }
         ensures { Some result ≡ slice_get self.now i }
     {
-        unpacked(nth(self.word, i))
+        if self.slides == 0 {
+            nth_packed(self.word, i)
+        } else {
+            self.pick_by_parts(i)
+        }
+    }
+
+    /// The same, whether or not there are Slides. It is seldom that there are.
+    #[inline(never)]
+    #[tactic(auto, unfolding(crate::specs::Packed::packed_with))]
+    fn pick_by_parts(&self, i: usize) -> Move
+        requires { i < length self.now }
+        ensures { Some result ≡ slice_get self.now i }
+    {
+        let low = self.word % (1 << 52);
+        let before = count_packed(low);
+        if i < before {
+            return nth_packed(low, i);
+        }
+        let i = i - before;
+        let slides = count_slides(self.slides);
+        if i < slides {
+            nth_slide(self.slides, i)
+        } else {
+            nth_packed(self.word - low, i - slides)
+        }
     }
 }

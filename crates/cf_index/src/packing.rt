@@ -1,16 +1,17 @@
-//! The word of the candidates of a small processor is computed from the processor.
+//! The words of the candidates of a small processor are computed from the processor.
 
 ghost use Rattle.std.specs.List.{list_any};
-ghost use Rattle.std.specs.Prelude.{◌≡◌, ℕ, ◌+◌, ◌*◌, ◌^◌, ◌<◌, ◌≤◌, ◌++◌, ◌&&◌, [], IfSome, None, false, filter, true, if◌then◌else◌, nat_lt};
+ghost use Rattle.std.specs.Prelude.{◌≡◌, ℕ, ◌+◌, ◌*◌, ◌/◌, ◌%◌, ◌^◌, ◌<◌, ◌≤◌, ◌∷◌, ◌++◌, ◌&&◌, ◌||◌, [], IfSome, None, false, filter, nat_lt, true, if◌then◌else◌};
+ghost use Rattle.cf_bind.specs.declared.moves.Move.TheVariants as mv;
 ghost use Rattle.cf_semantics.specs.moves.Candidates.{slides_from};
 ghost use Rattle.cf_semantics.specs.state.Options.{is_some};
 ghost use Rattle.cf_semantics.specs.state.State.{siding_at};
 ghost use Rattle.cf_core.specs.Masks.{masks_of};
-ghost use Rattle.cf_index.specs.Allowed.{all_leaving, allowed_others, is_allowed, kept_issues, withheld};
+ghost use Rattle.cf_index.specs.Allowed.{all_leaving, all_passing, is_allowed, kept_issues, withheld};
 ghost use Rattle.cf_index.specs.Words.{goes_on as is_going};
 ghost use Rattle.cf_index.specs.GuessRules.{guided as guided_moves};
-ghost use Rattle.cf_index.specs.Listed.{passing_moves};
-ghost use Rattle.cf_index.specs.Packed.{FitsEight, IsPackable, packed_from, packed_moves};
+ghost use Rattle.cf_index.specs.Listed.{passing_moves, slides_of};
+ghost use Rattle.cf_index.specs.Packed.{FitsEight, packed_from, packed_with};
 ghost use mir.Val.{bool_byte};
 
 use crate::fill::{passing_words, slides};
@@ -45,11 +46,12 @@ fn eight_then(stages: u32, rest: u64) -> u64
 
 /// The bits of the moves within the stages, followed by the bits of a word.
 #[inline(always)]
-#[tactic(auto, using(crate::proofs::PackedWords::passing_joined))]
+#[tactic(auto, using(crate::proofs::PackedWords::passing_parts))]
 fn passing_then(passing: &Passing, rest: u64) -> u64
     requires passing { FitsEight passing.now }
     requires rest { rest < 2 ^ 12 }
-    ensures moves { packed_from 4 60 result ≡ passing_moves passing.now ++ packed_from 52 12 rest }
+    ensures moves { packed_from 4 48 (result % 2 ^ 48) ≡ passing_moves passing.now }
+    ensures rest { result / 2 ^ 48 ≡ rest }
     ensures bits { result < 2 ^ 60 }
 {
     let sends = eight_then(passing.send, eight_then(passing.launch, rest));
@@ -77,13 +79,14 @@ fn leaving_bits(core: &Core, masks: &Masks, idle: bool) -> u64
     }
 }
 
-/// The bits of all candidates but Issue, given whether it is known that the sidings are empty.
+/// The bits of all candidates but Issue and Slide, given whether it is known that the sidings are empty.
 #[inline(always)]
 fn others(core: &Core, idle: bool) -> u64
-    requires packable { IsPackable core.now.plan core.now.state }
+    requires few { core.now.plan.stages ≤ 8 }
     requires on { is_going core.now.state ≡ true }
     requires idle { idle ≡ true → (k : ℕ) → list_any is_some (siding_at core.now.state k) ≡ false }
-    ensures moves { packed_from 3 61 result ≡ allowed_others core.now.plan core.now.state }
+    ensures stages { packed_from 3 49 (result % 2 ^ 49) ≡ filter (is_allowed core.now.plan core.now.state) (mv.Emit ∷ []) ++ filter (is_allowed core.now.plan core.now.state) (all_passing core.now.plan) }
+    ensures leaving { packed_from 52 12 (result / 2 ^ 49) ≡ filter (is_allowed core.now.plan core.now.state) (all_leaving core.now.plan) }
     ensures bits { result < 2 ^ 61 }
 {
     let masks = core.masks();
@@ -106,48 +109,54 @@ fn issues(core: &Core, rule: GuessRule) -> u64
     flag_then(issuable.next, wait)
 }
 
-/// The same; none where Issue is held back and there are other candidates, by their bits.
+/// The same; none where Issue is held back and there are other candidates.
 #[inline(always)]
-fn unheld_issues(core: &Core, rule: GuessRule, held: bool, others: u64) -> u64
-    ensures moves { packed_from 0 3 result ≡ (if held && nat_lt 0 others then [] else kept_issues rule core.now.plan core.now.state) }
+fn unheld_issues(core: &Core, rule: GuessRule, held: bool, others: bool) -> u64
+    ensures moves { packed_from 0 3 result ≡ (if held && others then [] else kept_issues rule core.now.plan core.now.state) }
     ensures bits { result < 8 }
 {
-    if held && others != 0 {
+    if held && others {
         0
     } else {
         issues(core, rule)
     }
 }
 
-/// Whether no Slide is allowed, given whether it is known that the sidings are empty.
+/// The cells from which Slide is allowed, given whether it is known that the sidings are empty.
 #[inline(always)]
-fn slides_none(core: &Core, idle: bool) -> bool
+fn slides_unless(core: &Core, idle: bool) -> u64
     requires { idle ≡ true → (k : ℕ) → list_any is_some (siding_at core.now.state k) ≡ false }
-    ensures none { result ≡ true → filter (is_allowed core.now.plan core.now.state) (slides_from 0 core.now.plan.sidings) ≡ [] }
-    ensures some { result ≡ false → filter (is_allowed core.now.plan core.now.state) (slides_from 0 core.now.plan.sidings) ≡ [] → ⊥ }
+    ensures { slides_of result ≡ filter (is_allowed core.now.plan core.now.state) (slides_from 0 core.now.plan.sidings) }
 {
-    idle || slides(core) == 0
+    if idle { 0 } else { slides(core) }
+}
+
+/// Whether either of two words has a bit.
+#[inline(always)]
+fn is_any(word: u64, other: u64) -> bool
+    ensures { result ≡ (nat_lt 0 word || nat_lt 0 other) }
+{
+    word > 0 || other > 0
 }
 
 impl PackedCandidates {
     /// The moves that are allowed now and that the guess rule keeps, with Issue held back or not. There is no answer
-    /// where the processor does not go on, its layout has more than eight stages, or a Slide is allowed.
+    /// where the processor does not go on, or its layout has more than eight stages.
     #[inline(always)]
     pub fn of(core: &Core, rule: GuessRule, held: bool) -> Option<PackedCandidates>
         ensures offered { IfSome result (λ packed. packed ≡ withheld held (guided_moves rule core.now.plan core.now.state)) }
-        ensures fits { result ≡ None → is_going core.now.state ≡ true → IsPackable core.now.plan core.now.state → ⊥ }
+        ensures fits { result ≡ None → is_going core.now.state ≡ true → core.now.plan.stages ≤ 8 → ⊥ }
     {
         if !goes_on(core) || 8 < stages(core) {
             return None;
         }
         let idle = are_empty(core);
-        if !slides_none(core, idle) {
-            return None;
-        }
         let others = others(core, idle);
-        let issues = unheld_issues(core, rule, held, others);
+        let slides = slides_unless(core, idle);
+        let issues = unheld_issues(core, rule, held, is_any(others, slides));
         Some(PackedCandidates {
             word: issues + 8 * others,
+            slides,
         })
     }
 }

@@ -1,4 +1,4 @@
-use Rattle.std.proofs.Common.{◌≤◌, arith}
+use Rattle.std.proofs.Common.{◌≤◌}
 use Rattle.cf_index.proofs.Filled.{leaving_chosen}
 use Rattle.cf_index.proofs.Rows.{recover-stages}
 use Rattle.cf_index.proofs.fill.leaving.Goals as goal
