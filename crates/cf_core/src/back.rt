@@ -120,6 +120,6 @@ impl Core {
     {
         self.processor.put_back(&undo);
         let touched = self.processor.touched(undo.moved());
-        self.marks = self.processor.remarked(self.marks, touched);
+        self.processor.remark(&mut self.marks, touched);
     }
 }

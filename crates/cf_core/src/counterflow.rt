@@ -259,7 +259,7 @@ impl Core {
         if keeps {
             return made;
         }
-        self.marks = self.processor.remarked(self.marks, touched);
+        self.processor.remark(&mut self.marks, touched);
         made
     }
 
@@ -279,7 +279,7 @@ impl Core {
         if keeps {
             return event;
         }
-        self.marks = self.processor.remarked(self.marks, touched);
+        self.processor.remark(&mut self.marks, touched);
         event
     }
 

@@ -63,24 +63,23 @@ impl Processor {
         }
     }
 
-    /// The marks with those of the stage that has this instruction brought up to date.
-    // It stays a call: with it a move would be too large to become a part of the loop of a run. It is given the words, since
-    // it knows of two of them that their bit is not set where the class has no siding.
+    /// Brings the marks of this stage, where this instruction is, up to date.
+    // It stays a call: with it a move would be too large to become a part of the loop of a run.
     #[inline(never)]
     #[tactic(auto, using(crate::proofs::Tabled::sites))]
-    fn with_rider(&self, marks: Marks, passenger: &Passenger, i: u32) -> Marks
+    fn mark_rider(&self, marks: &mut Marks, passenger: &Passenger, i: u32)
         requires above { 0 < i }
         requires within { i ≤ self.now.plan.stages }
         requires facts { IsProcessor self.now.plan self.now.state }
         requires here { passenger_at self.now.state.cells i ≡ Some passenger.now }
-        ensures { result ≡ marked marks i (mark_at self.now.plan self.now.state i) }
+        ensures { marks.new ≡ marked marks.old i (mark_at self.now.plan self.now.state i) }
     {
         self.know_stages();
         let class = kind(passenger);
         let station = self.station(class);
         match station.siding {
-            Some(site) => marks.with(i, self.mark_at_siding(passenger, class, site, i)),
-            None => marks.with(i, self.mark_at_units(passenger, station, i)),
+            Some(site) => marks.set(i, self.mark_at_siding(passenger, class, site, i)),
+            None => marks.set(i, self.mark_at_units(passenger, station, i)),
         }
     }
 
@@ -98,36 +97,34 @@ impl Processor {
         }
     }
 
-    /// The marks with those of this stage brought up to date.
+    /// Brings the marks of this stage up to date.
     #[inline(always)]
     #[tactic(auto, using(crate::proofs::Rides::mark_none))]
-    fn with_stage(&self, marks: Marks, i: u32) -> Marks
+    pub(crate) fn mark_stage(&self, marks: &mut Marks, i: u32)
         requires above { 0 < i }
         requires within { i ≤ self.now.plan.stages }
         requires facts { IsProcessor self.now.plan self.now.state }
-        ensures { result ≡ marked marks i (mark_at self.now.plan self.now.state i) }
+        ensures { marks.new ≡ marked marks.old i (mark_at self.now.plan self.now.state i) }
     {
         self.know_stages();
         match self.stages.passenger(i) {
-            Some(passenger) if is_idle(passenger) => marks.with(i, self.mark_idle(passenger, i)),
-            Some(passenger) => self.with_rider(marks, passenger, i),
-            None => marks.with(i, StageMark::of_none()),
+            Some(passenger) if is_idle(passenger) => marks.set(i, self.mark_idle(passenger, i)),
+            Some(passenger) => self.mark_rider(marks, passenger, i),
+            None => marks.set(i, StageMark::of_none()),
         }
     }
 
-    /// The marks with those of the two stages brought up to date.
+    /// Brings the marks of the two stages up to date.
     #[inline(always)]
     #[tactic(auto, using(crate::proofs::Bits::marked_once))]
-    pub(crate) fn remarked(&self, marks: Marks, touched: Touched) -> Marks
+    pub(crate) fn remark(&self, marks: &mut Marks, touched: Touched)
         requires within { Within self.now.plan touched }
         requires facts { IsProcessor self.now.plan self.now.state }
-        ensures { result ≡ remarked_by self.now.plan self.now.state marks touched }
+        ensures { marks.new ≡ remarked_by self.now.plan self.now.state marks.old touched }
     {
-        let marks = self.with_stage(marks, touched.low);
-        if touched.low == touched.high {
-            marks
-        } else {
-            self.with_stage(marks, touched.high)
+        self.mark_stage(marks, touched.low);
+        if touched.low != touched.high {
+            self.mark_stage(marks, touched.high);
         }
     }
 }

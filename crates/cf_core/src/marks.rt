@@ -65,19 +65,17 @@ impl Marks {
         }
     }
 
-    /// The marks with those of one stage replaced.
+    /// Replaces the marks of one stage.
     #[inline(always)]
-    pub(crate) fn with(self, i: u32, mark: StageMark) -> Marks
+    pub(crate) fn set(&mut self, i: u32, mark: StageMark)
         requires above { 0 < i }
         requires within { i ≤ 32 }
-        ensures { result ≡ marked self i mark }
+        ensures { self.new ≡ marked self.old i mark }
     {
-        Marks {
-            owes: with_bit(self.owes, i, mark.owes),
-            stops: with_bit(self.stops, i, mark.stops),
-            execute: with_bit(self.execute, i, mark.execute),
-            launch: with_bit(self.launch, i, mark.launch),
-            recover: with_bit(self.recover, i, mark.recover),
-        }
+        self.owes = with_bit(self.owes, i, mark.owes);
+        self.stops = with_bit(self.stops, i, mark.stops);
+        self.execute = with_bit(self.execute, i, mark.execute);
+        self.launch = with_bit(self.launch, i, mark.launch);
+        self.recover = with_bit(self.recover, i, mark.recover);
     }
 }

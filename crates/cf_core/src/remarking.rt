@@ -70,7 +70,7 @@ impl Processor {
         ensures { marks.new ≡ remarked_by self.now.plan self.now.state marks.old (record { low = i; high = j }) }
     {
         if self.stops_at_siding(passenger, site, j) {
-            *marks = self.remarked(*marks, Touched { low: i, high: j });
+            self.remark(marks, Touched { low: i, high: j });
         } else {
             self.mark_climbed(marks, passenger, units, false, i, j);
         }

@@ -25,8 +25,8 @@ touched-touched-requires-clause-allowed c =
     rw c.moved.ensures (subst (λ (p : Processor). row_bar p.plan p.state (kept_by c.args.undo).move ≡ None) (sym c.put_back.ensures)
     (back-free c.self.inside.processor (kept_by c.args.undo) after))
 
-pub remarked-self-inside-requires-clause-within : goal.remarked-self-inside-requires-clause-within
-remarked-self-inside-requires-clause-within c =
+pub remark-requires-clause-within : goal.remark-requires-clause-within
+remark-requires-clause-within c =
     let after = subst (λ (p : Processor). HasJustMade p (kept_by c.args.undo)) (sym c.self.view_is) c.requires in
     let p = c.self.inside.processor in
     let at = c.touched-touched.ensures ∙ ap (λ (q : Processor). touched q.plan q.state c.moved.result) c.put_back.ensures
@@ -34,8 +34,8 @@ remarked-self-inside-requires-clause-within c =
     subst (λ (q : Processor). Within q.plan c.touched-touched.result) (sym c.put_back.ensures)
     (back-within p (kept_by c.args.undo) c.touched-touched.result after at)
 
-pub remarked-self-inside-requires-clause-facts : goal.remarked-self-inside-requires-clause-facts
-remarked-self-inside-requires-clause-facts c =
+pub remark-requires-clause-facts : goal.remark-requires-clause-facts
+remark-requires-clause-facts c =
     let after = subst (λ (p : Processor). HasJustMade p (kept_by c.args.undo)) (sym c.self.view_is) c.requires in
     subst (λ (p : Processor). IsProcessor p.plan p.state) (sym c.put_back.ensures) (back-facts c.self.inside.processor (kept_by c.args.undo) after)
 
@@ -47,7 +47,7 @@ invariant_of-self c =
     ∙ ap (touched p.plan _) c.moved.ensures in
     let marks = back-marks p (kept_by c.args.undo) c.self.inside.marks c.touched-touched.result after c.self.invariant.1 at in (
       subst (λ (q : Processor). IsProcessor q.plan q.state) (sym c.put_back.ensures) (back-facts p (kept_by c.args.undo) after),
-      c.remarked-self-inside.ensures
+      c.remark.ensures
           ∙ ap (λ (q : Processor). remarked q.plan q.state c.self.inside.marks c.touched-touched.result) c.put_back.ensures
           ∙ marks
           ∙ ap (λ (q : Processor). marks_of q.plan q.state) (sym c.put_back.ensures),

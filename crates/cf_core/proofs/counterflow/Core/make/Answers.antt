@@ -17,8 +17,8 @@ touched-touched-requires-clause-allowed g c =
     unbarred c.self.inside.processor.plan c.self.inside.processor.state c.args.m (subst (λ (p : Processor). bar p.plan p.state c.args.m ≡ None)
     (sym c.self.view_is) c.requires.allowed)
 
-pub remarked-self-inside-requires-clause-within : goal.remarked-self-inside-requires-clause-within
-remarked-self-inside-requires-clause-within g c =
+pub remark-requires-clause-within : goal.remark-requires-clause-within
+remark-requires-clause-within g c =
     let before = streams_of (g.S.Source.left c.args.input.now) (g.K.Sink.written c.args.output.now) in
     let after = streams_of (g.S.Source.left c.make-made.new.input) (g.K.Sink.written c.make-made.new.output) in
     made-within c.self.inside.processor c.make-made.new.self c.args.m before after c.make-made.result c.touched-touched.result c.self.invariant.0
@@ -40,6 +40,6 @@ invariant_of-self-2 g c =
     let after = streams_of (g.S.Source.left c.make-made.new.input) (g.K.Sink.written c.make-made.new.output) in
     let free = subst (λ (p : Processor). bar p.plan p.state c.args.m ≡ None) (sym c.self.view_is) c.requires.allowed in (
       made-kept c.self.inside.processor c.make-made.new.self c.args.m before after c.make-made.result free c.make-made.ensures.makes c.self.invariant.0,
-      c.remarked-self-inside.ensures ∙ made-marks c.self.inside.processor c.make-made.new.self c.self.inside.marks c.args.m before after c.make-made.result
+      c.remark.ensures ∙ made-marks c.self.inside.processor c.make-made.new.self c.self.inside.marks c.args.m before after c.make-made.result
           c.touched-touched.result c.self.invariant.0 free c.make-made.ensures.makes c.self.invariant.1 c.touched-touched.ensures,
     )

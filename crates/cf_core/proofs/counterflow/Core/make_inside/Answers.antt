@@ -23,8 +23,8 @@ make_inside-event-requires-clause-allowed c =
     unbarred c.self.inside.processor.plan c.self.inside.processor.state c.args.m (subst (λ (p : Processor). bar p.plan p.state c.args.m ≡ None)
     (sym c.self.view_is) c.requires.allowed)
 
-pub remarked-self-inside-requires-clause-within : goal.remarked-self-inside-requires-clause-within
-remarked-self-inside-requires-clause-within c =
+pub remark-requires-clause-within : goal.remark-requires-clause-within
+remark-requires-clause-within c =
     let p = c.self.inside.processor in
     let free = subst (λ (q : Processor). bar q.plan q.state c.args.m ≡ None) (sym c.self.view_is) c.requires.allowed in
     let s = streams_of None None in
@@ -52,12 +52,12 @@ invariant_of-self-2 c =
     let made = inside-makes p c.make_inside-event.new.self c.args.m s c.make_inside-event.result c.requires.other c.make_inside-event.ensures.processor
     c.make_inside-event.ensures.event in (
       made-kept p c.make_inside-event.new.self c.args.m s s (Ok c.make_inside-event.result) free made c.self.invariant.0,
-      c.remarked-self-inside.ensures ∙ made-marks p c.make_inside-event.new.self c.self.inside.marks c.args.m s s (Ok c.make_inside-event.result)
+      c.remark.ensures ∙ made-marks p c.make_inside-event.new.self c.self.inside.marks c.args.m s s (Ok c.make_inside-event.result)
           c.touched-touched.result c.self.invariant.0 free made c.self.invariant.1 c.touched-touched.ensures,
     )
 
-pub remarked-self-inside-requires-clause-facts : goal.remarked-self-inside-requires-clause-facts
-remarked-self-inside-requires-clause-facts c =
+pub remark-requires-clause-facts : goal.remark-requires-clause-facts
+remark-requires-clause-facts c =
     let p = c.self.inside.processor in
     let free = subst (λ (q : Processor). bar q.plan q.state c.args.m ≡ None) (sym c.self.view_is) c.requires.allowed in
     let s = streams_of None None in

@@ -3,7 +3,7 @@ use Rattle.std.proofs.Common.{◌≡◌, Some, subst}
 use Rattle.rv_inst.specs.declared.classes.Class.{Class}
 use Rattle.cf_layout.specs.Layout.{siding_of}
 use Rattle.cf_core.proofs.Tabled.{found-site}
-use Rattle.cf_core.proofs.processor.Processor.with_rider.Goals as goal
+use Rattle.cf_core.proofs.processor.Processor.mark_rider.Goals as goal
 
 pub mark_at_siding-requires-clause-site : goal.mark_at_siding-requires-clause-site
 mark_at_siding-requires-clause-site c = found-site c.args.self.now.plan c.kind-class.result c.station-station.result.now c.in-Some.site
