@@ -29,3 +29,4 @@ pub mod LiftedMarks
 pub mod ClimbMarks
 pub mod StillMarks
 pub mod Tabled
+pub mod Laid

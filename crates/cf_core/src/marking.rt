@@ -63,6 +63,20 @@ impl Processor {
         }
     }
 
+    /// Brings the marks of this stage up to date, where this instruction, of a class with this siding, is.
+    // It stays a call: most instructions are of a class without a siding, and theirs does with fewer registers.
+    #[inline(never)]
+    fn mark_beside(&self, marks: &mut Marks, passenger: &Passenger, site: &SidingStages, i: u32)
+        requires facts { IsProcessor self.now.plan self.now.state }
+        requires stands { StandsBeside self.now.plan self.now.state passenger.now (kind_of_passenger passenger.now) site.now.number i }
+        requires site { AreSidingStages self.now.plan (kind_of_passenger passenger.now) site.now }
+        ensures { marks.new ≡ marked marks.old i (mark_at self.now.plan self.now.state i) }
+    {
+        self.know_stages();
+        let mark = self.mark_at_siding(passenger, kind(passenger), *site, i);
+        marks.set(i, mark);
+    }
+
     /// Brings the marks of this stage, where this instruction is, up to date.
     // It stays a call: with it a move would be too large to become a part of the loop of a run.
     #[inline(never)]
@@ -75,10 +89,9 @@ impl Processor {
         ensures { marks.new ≡ marked marks.old i (mark_at self.now.plan self.now.state i) }
     {
         self.know_stages();
-        let class = kind(passenger);
-        let station = self.station(class);
-        match station.siding {
-            Some(site) => marks.set(i, self.mark_at_siding(passenger, class, site, i)),
+        let station = self.station(kind(passenger));
+        match &station.siding {
+            Some(site) => self.mark_beside(marks, passenger, site, i),
             None => marks.set(i, self.mark_at_units(passenger, station, i)),
         }
     }

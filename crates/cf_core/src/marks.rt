@@ -1,10 +1,21 @@
 //! The marks: one word for each fact about the stages that is kept from one move to the next. Unlike the masks, which a caller
 //! sees, they say nothing of whether the processor goes on, and they are never read outside this crate.
 
-ghost use Rattle.std.specs.Prelude.{◌≡◌, ◌<◌, ◌≤◌};
+ghost use Rattle.std.specs.Prelude.{◌≡◌, ◌-◌, ◌<◌, ◌≤◌};
+ghost use Rattle.cf_stages.specs.Words.{with_bit};
 ghost use Rattle.cf_core.specs.Marks.{no_mark, marked};
 
-use cf_stages::with_bit;
+/// The word with the bit of a stage set, or not set: bit i - 1 for stage i.
+// No jump is taken, and the words of one stage have the place of the bit in common.
+#[inline(always)]
+#[tactic(auto, using(crate::proofs::Laid::laying))]
+fn laid(word: u32, i: u32, set: bool) -> u32
+    requires above { 0 < i }
+    requires within { i ≤ 32 }
+    ensures { result ≡ with_bit word (i - 1) set }
+{
+    word & !(1 << (i - 1)) | u32::from(set) << (i - 1)
+}
 
 /// The marks of one stage.
 #[derive(Clone, Copy)]
@@ -72,10 +83,10 @@ impl Marks {
         requires within { i ≤ 32 }
         ensures { self.new ≡ marked self.old i mark }
     {
-        self.owes = with_bit(self.owes, i, mark.owes);
-        self.stops = with_bit(self.stops, i, mark.stops);
-        self.execute = with_bit(self.execute, i, mark.execute);
-        self.launch = with_bit(self.launch, i, mark.launch);
-        self.recover = with_bit(self.recover, i, mark.recover);
+        self.owes = laid(self.owes, i, mark.owes);
+        self.stops = laid(self.stops, i, mark.stops);
+        self.execute = laid(self.execute, i, mark.execute);
+        self.launch = laid(self.launch, i, mark.launch);
+        self.recover = laid(self.recover, i, mark.recover);
     }
 }

@@ -11,7 +11,7 @@ use cf_passengers::first_missing;
 pub(crate) fn is_undone(passenger: &Passenger) -> bool
     ensures { result ≡ is_not_done passenger.now }
 {
-    !passenger.dead && !passenger.done
+    !passenger.dead & !passenger.done
 }
 
 /// Whether its operation was launched and has not come back.

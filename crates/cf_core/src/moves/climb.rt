@@ -50,7 +50,7 @@ impl Processor {
         requires last { last ≡ last_stage self.now.plan (kind_of_passenger passenger.now) }
         ensures { result ≡ stops_there self.now.plan self.now.state i }
     {
-        is_undone(passenger) && !passenger.launched && last == i
+        is_undone(passenger) & !passenger.launched & (last == i)
     }
 
     /// Whether the instruction must not climb on yet, because its siding launches or recovers here.

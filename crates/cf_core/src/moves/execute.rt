@@ -50,7 +50,7 @@ impl Processor {
         ensures { result ≡ row_allows self.now.plan self.now.state (mv.Execute i) }
     {
         self.know_stages();
-        is_undone(passenger) && has_bit(units, i) && has_sources(passenger)
+        is_undone(passenger) & has_bit(units, i) && has_sources(passenger)
     }
 
     /// A unit of the stage executes its instruction.
