@@ -27,6 +27,8 @@ pub mod Blocks
 pub mod Lifts
 pub mod LiftedMarks
 pub mod ClimbMarks
+pub mod SameStages
+pub mod Lacking
 pub mod StillMarks
 pub mod Tabled
 pub mod Laid

@@ -18,7 +18,8 @@ use Rattle.cf_core.specs.Riders.{is_spent}
 use Rattle.cf_core.specs.declared.marks.Marks.{Marks}
 use Rattle.cf_core.proofs.Bits.{marks-two}
 use Rattle.cf_core.proofs.KeptMarks.{marks-same}
-use Rattle.cf_core.proofs.StillMarks.{Same, lift-keeps}
+use Rattle.cf_core.proofs.SameStages.{Same}
+use Rattle.cf_core.proofs.StillMarks.{lift-keeps}
 use Rattle.cf_core.proofs.Touched.{two-but}
 use Rattle.cf_core.proofs.moves.KeptStages.{climb-kept}
 

@@ -1,8 +1,7 @@
 -- The moves that leave what holds of each stage as it is: those of an instruction that is spent, meetings that leave
 -- the instruction as it was, and those of a result.
 use Rattle.std.proofs.Common.{◌≡◌, ◌≢◌, ◌∙◌, ℕ, suc, ◌+◌, ◌-◌, ◌<◌, ◌≤◌, List, [], ◌∷◌, Option, Some, None, Bool, true, false, refl, sym, ap, subst, arith}
-use Rattle.std.specs.Prelude.{◌&&◌, ◌||◌, ◌==◌, nat_eq, not, if◌then◌else◌}
-use Rattle.std.proofs.lemmas.Bool.Decides.{nat_tests}
+use Rattle.std.specs.Prelude.{◌&&◌, ◌||◌, ◌==◌, not, if◌then◌else◌}
 use Rattle.cf_bind.specs.declared.binding.Binding.{Binding}
 use Rattle.cf_bind.specs.declared.cell.Cell.{Cell}
 use Rattle.cf_bind.specs.declared.moves.Bar.{Bar}
@@ -22,47 +21,18 @@ use Rattle.cf_semantics.specs.state.Layouts.{ends_units, launches, recovers}
 use Rattle.cf_semantics.specs.moves.Moves.{cell_met, climbed, emitted, exited, fallen, left, left_live, moved, without_packet, without_passenger}
 use Rattle.cf_semantics.specs.state.Options.{on, is_some}
 use Rattle.cf_semantics.specs.state.Passengers.{kind}
-use Rattle.cf_semantics.specs.state.State.{State, cell_at, put_cell, with_cell}
+use Rattle.cf_semantics.specs.state.State.{State, cell_at, with_cell}
 use Rattle.cf_stages.specs.Changes.{passenger_at}
 use Rattle.cf_stages.proofs.Bits.{word-bit}
 use Rattle.cf_stages.proofs.Parts.{cell-put, cell-put-other, stage-high, stage-low}
-use Rattle.cf_core.specs.Marks.{row_allows, keeps_marks, mark_at, marks_of, no_mark, passes_by}
+use Rattle.cf_core.specs.Marks.{row_allows, keeps_marks, mark_at, marks_of, no_mark, passes_by, waits_on}
 use Rattle.cf_core.specs.Masks.{rides, stops_there}
 use Rattle.cf_core.specs.Riders.{awaits, is_idle, is_out, is_passed_by, is_spent, is_undone}
 use Rattle.cf_core.specs.declared.marks.Marks.{Marks}
-use Rattle.cf_core.proofs.Bits.{SameBut}
 use Rattle.cf_core.proofs.Rides.{mark-idle, mark-none}
-use Rattle.cf_core.proofs.SameMarks.{beside, cell-but, mark_by, mark_is, rest-same}
-
--- the same holds of each stage
-abbrev pub Same : Plan → State → State → Type 0
-Same plan s t = (k : ℕ) → mark_at plan t k ≡ mark_at plan s k
-
-unchanged : (plan : Plan) (s : State) → Same plan s s
-unchanged plan s k = refl
-
-both : (plan : Plan) (s t u : State) → Same plan s t → Same plan t u → Same plan s u
-both plan s t u one two k = two k ∙ one k
-
--- A stage with other contents --
-
-one_stage : (plan : Plan) (s t : State) (i : ℕ) → SameBut plan s t i i → mark_at plan t i ≡ mark_at plan s i → Same plan s t
-one_stage plan s t i but here k = by_stage (nat_eq k i) refl
-  where
-    by_stage : (b : Bool) → nat_eq k i ≡ b → mark_at plan t k ≡ mark_at plan s k
-    by_stage true e = let z : k ≡ i = grind (arith, nat_tests) in rw z here
-    by_stage false e = let off : k ≢ i = grind (arith, nat_tests) in but k off off
-
-mark_put : (plan : Plan) (s : State) (i : ℕ) (b c : Cell) → cell_at s.cells i ≡ Some b → mark_at plan (with_cell s i c) i ≡ mark_by plan s i (Some c)
-mark_put plan s i b c here =
-    mark_is plan (with_cell s i c) i
-    ∙ ap (mark_by plan (with_cell s i c) i) (cell-put s.cells i c (stage-low s.cells i b here) (stage-high s.cells i b here))
-    ∙ beside plan s (put_cell s.cells i c) i (Some c)
-
-put_same : (plan : Plan) (s : State) (i : ℕ) (b c : Cell) → cell_at s.cells i ≡ Some b → mark_by plan s i (Some c) ≡ mark_by plan s i (Some b) →
-    Same plan s (with_cell s i c)
-put_same plan s i b c here same =
-    one_stage plan s (with_cell s i c) i (cell-but plan s i i c) (mark_put plan s i b c here ∙ same ∙ sym (mark_is plan s i ∙ ap (mark_by plan s i) here))
+use Rattle.cf_core.proofs.Lacking.{waiting-keeps}
+use Rattle.cf_core.proofs.SameMarks.{cell-but, mark_by, rest-same}
+use Rattle.cf_core.proofs.SameStages.{Same, both, one_stage, put_same, unchanged}
 
 -- Moves of a result --
 
@@ -386,11 +356,12 @@ passing_keeps plan s i stays passed = by_cell (cell_at s.cells i) refl stays pas
     by_cell None e stays passed = unchanged plan s
     by_cell (Some c) e stays passed = by_rider c c.passenger e refl stays passed
 
-meeting_keeps : (plan : Plan) (s : State) (i : ℕ) (spent stops : Bool) → rides s i is_spent ≡ spent → stops_there plan s i ≡ stops →
-    (spent || (not stops && passes_by s i)) ≡ true → Same plan s (moved plan s (Meet i))
-meeting_keeps plan s i true stops e f keeps = meet_keeps plan s i e
-meeting_keeps plan s i false true e f keeps = absurd (cc)
-meeting_keeps plan s i false false e f keeps = passing_keeps plan s i f keeps
+meeting_keeps : (plan : Plan) (s : State) (i : ℕ) (spent waits stops : Bool) → rides s i is_spent ≡ spent → waits_on s i ≡ waits →
+    stops_there plan s i ≡ stops → (spent || (waits || (not stops && passes_by s i))) ≡ true → Same plan s (moved plan s (Meet i))
+meeting_keeps plan s i true waits stops e f g keeps = meet_keeps plan s i e
+meeting_keeps plan s i false true stops e f g keeps = waiting-keeps plan s i f
+meeting_keeps plan s i false false true e f g keeps = absurd (cc)
+meeting_keeps plan s i false false false e f g keeps = passing_keeps plan s i g keeps
 
 -- an instruction that leaves is spent
 leave_spent : (c : Cell) (p : Passenger) → c.passenger ≡ Some p → leave_bar c ≡ None → is_spent p ≡ true
@@ -433,7 +404,7 @@ leave_keeps plan s free = by_cell (cell_at s.cells plan.stages) refl free
 pub moved-same : (plan : Plan) (s : State) (mv : Move) → row_bar plan s mv ≡ None → keeps_marks plan s mv ≡ true → Same plan s (moved plan s mv)
 unfolding keeps_marks
 moved-same plan s (Climb i) free keeps = climb_keeps plan s i free keeps
-moved-same plan s (Meet i) free keeps = meeting_keeps plan s i (rides s i is_spent) (stops_there plan s i) refl refl keeps
+moved-same plan s (Meet i) free keeps = meeting_keeps plan s i (rides s i is_spent) (waits_on s i) (stops_there plan s i) refl refl refl keeps
 moved-same plan s (Fall i) free keeps = fall_keeps plan s i free (unset (row_allows plan s (Launch (i - 1))) keeps)
 moved-same plan s Emit free keeps = emit_keeps plan s free (unset (row_allows plan s (Launch plan.stages)) keeps)
 moved-same plan s Leave free keeps = leave_keeps plan s free

@@ -11,7 +11,7 @@ use Rattle.cf_semantics.specs.state.Passengers.{kind}
 use Rattle.cf_stages.specs.Changes.{packet_at, passenger_at}
 use Rattle.cf_stages.specs.Words.{with_bit, word_of}
 use Rattle.cf_core.specs.Masks.{owes_at, rides, stops_there}
-use Rattle.cf_core.specs.Riders.{is_passed_by, is_spent}
+use Rattle.cf_core.specs.Riders.{is_left_waiting, is_passed_by, is_spent}
 use Rattle.cf_core.specs.declared.marks.StageMark.{StageMark}
 use Rattle.cf_core.specs.declared.marks.Marks.{Marks}
 use Rattle.cf_core.specs.declared.touching.Touched.{Touched}
@@ -99,12 +99,16 @@ remarked plan s marks t = marked (marked marks t.low (mark_at plan s t.low)) t.h
 abbrev pub passes_by : State → ℕ → Bool
 passes_by s i = on (passenger_at s.cells i) false (λ p. on (packet_at s.cells i) false (is_passed_by p))
 
--- the moves after which the same holds of each stage: those of an instruction that is spent; a meeting with a value
--- that the instruction does not wait for, if it does not stop there; and those of a result, unless it comes to a stage
--- from which an operation can be launched, since it may bar the launch
+-- a value is there after which the instruction still waits for that of a source
+abbrev pub waits_on : State → ℕ → Bool
+waits_on s i = on (passenger_at s.cells i) false (λ p. on (packet_at s.cells i) false (is_left_waiting p))
+
+-- the moves after which the same holds of each stage: those of an instruction that is spent; a meeting with a value,
+-- if the instruction still waits for another, or if it waits for none and does not stop there; and those of a result,
+-- unless it comes to a stage from which an operation can be launched, since it may bar the launch
 unfoldable pub keeps_marks : Plan → State → Move → Bool
 keeps_marks plan s (Climb i) = rides s i is_spent
-keeps_marks plan s (Meet i) = rides s i is_spent || (not (stops_there plan s i) && passes_by s i)
+keeps_marks plan s (Meet i) = rides s i is_spent || (waits_on s i || (not (stops_there plan s i) && passes_by s i))
 keeps_marks plan s (Fall i) = not (row_allows plan s (Launch (i - 1)))
 keeps_marks plan s Emit = not (row_allows plan s (Launch plan.stages))
 keeps_marks plan s Leave = true

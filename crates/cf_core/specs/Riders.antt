@@ -1,5 +1,5 @@
 -- What can be said of an instruction in a stage ("Counterflow Pipeline Processor Architecture", 1994).
-use Rattle.std.specs.Prelude.{◌≡◌, ℕ, ◌<◌, ◌≤◌, Bool, false, ◌&&◌, ◌==◌, not, Option, Some, None, length}
+use Rattle.std.specs.Prelude.{◌≡◌, ℕ, ◌<◌, ◌≤◌, Bool, false, ◌&&◌, ◌||◌, ◌==◌, not, Option, Some, None, length}
 use Rattle.rv_inst.specs.declared.classes.Class.{Class}
 use Rattle.cf_layout.specs.Layout.{Plan, siding_of}
 use Rattle.cf_bind.specs.declared.binding.Binding.{Binding}
@@ -48,3 +48,14 @@ abbrev pub is_passed_by : Passenger → Packet → Bool
 is_passed_by p (Value r v) = not (awaits r p.src1) && not (awaits r p.src2)
 is_passed_by p (Turn pc) = false
 is_passed_by p Halt = false
+
+-- the source has no value yet, and is another register
+abbrev pub lacks : ℕ → Option Binding → Bool
+lacks r None = false
+lacks r (Some b) = not (is_some b.value) && not (b.reg == r)
+
+-- the result is a value, after which it still waits for that of a source
+abbrev pub is_left_waiting : Passenger → Packet → Bool
+is_left_waiting p (Value r v) = lacks r p.src1 || lacks r p.src2
+is_left_waiting p (Turn pc) = false
+is_left_waiting p Halt = false

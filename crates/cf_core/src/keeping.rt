@@ -57,8 +57,8 @@ impl Processor {
     }
 
     /// Whether an allowed move leaves the marks of all stages as they are. Most moves do: the moves of an instruction
-    /// that has nothing left to do; a meeting with a value that the instruction does not wait for, if it may climb on;
-    /// and the moves of a result. But a result that comes to a stage with an operation to launch may bar the launch.
+    /// that has nothing left to do; a meeting with a value, if the instruction still waits for another, or if it waits for
+    /// none and may climb on; and the moves of a result. But a result that comes to a stage with an operation to launch may bar the launch.
     #[inline(always)]
     #[tactic(auto, using(crate::proofs::Sites::moving), unfolding(crate::specs::Marks::keeps_marks))]
     pub(crate) fn keeps_marks(&self, marks: Marks, m: Move) -> bool
@@ -70,7 +70,9 @@ impl Processor {
         match m {
             Move::Climb(i) => self.is_spent_at(i),
             Move::Meet(i) => {
-                self.is_spent_at(i) || (!self.stops_by(marks, i) && self.passes_by(i))
+                self.is_spent_at(i)
+                    || self.waits_on(i)
+                    || (!self.stops_by(marks, i) && self.passes_by(i))
             }
             Move::Fall(i) => !self.launches_at(marks, i - 1),
             Move::Emit => !self.launches_at(marks, self.stages.count()),

@@ -5,9 +5,9 @@ ghost use Rattle.cf_bind.specs.declared.moves.Move.TheVariants as mv;
 ghost use Rattle.cf_semantics.specs.moves.Bars.{row_bar};
 ghost use Rattle.cf_semantics.specs.moves.Events.{IsEvent};
 ghost use Rattle.cf_semantics.specs.state.Options.{on};
-ghost use Rattle.cf_core.specs.Marks.{passes_by as stands_by};
+ghost use Rattle.cf_core.specs.Marks.{passes_by as stands_by, waits_on as is_waiting_on};
 ghost use Rattle.cf_core.specs.Processors.{IsProcessor, after_move};
-ghost use Rattle.cf_core.specs.Riders.{awaits as waits_for, is_passed_by as passed_by};
+ghost use Rattle.cf_core.specs.Riders.{awaits as waits_for, is_left_waiting as left_waiting, is_passed_by as passed_by, lacks as waits_for_another};
 ghost use Rattle.cf_core.specs.Seen.{dies_at, event_seen as seen_of, is_fatal as fatal};
 
 use crate::processor::Processor;
@@ -50,6 +50,32 @@ fn awaits(source: Option<Binding>, register: u8) -> bool
 {
     match source {
         Some(binding) => binding.value.is_none() && binding.reg == register,
+        None => false,
+    }
+}
+
+/// Whether the source has no value yet, and is another register.
+#[inline(always)]
+fn lacks(source: Option<Binding>, register: u8) -> bool
+    ensures { result ≡ waits_for_another register source }
+{
+    match source {
+        Some(binding) => binding.value.is_none() && binding.reg != register,
+        None => false,
+    }
+}
+
+/// Whether the result is a value after which the instruction still waits for that of a source.
+#[inline(always)]
+fn is_left_waiting(passenger: &Passenger, packet: Option<Packet>) -> bool
+    ensures { result ≡ on packet false (left_waiting passenger.now) }
+{
+    match packet {
+        Some(Packet::Value { reg, .. }) => {
+            lacks(passenger.src1, reg) || lacks(passenger.src2, reg)
+        }
+        Some(Packet::Turn(_)) => false,
+        Some(Packet::Halt) => false,
         None => false,
     }
 }
@@ -114,6 +140,21 @@ impl Processor {
         let dies = self.dies(i);
         self.stages.meet_at(i);
         seen(dies, self.stages.packet(i))
+    }
+
+    /// Whether the stage has an instruction and a value after which the instruction still waits for that of a source.
+    #[inline(always)]
+    pub(crate) fn waits_on(&self, i: u32) -> bool
+        requires above { 0 < i }
+        requires within { i ≤ self.now.plan.stages }
+        requires facts { IsProcessor self.now.plan self.now.state }
+        ensures { result ≡ is_waiting_on self.now.state i }
+    {
+        self.know_stages();
+        match self.stages.passenger(i) {
+            Some(passenger) => is_left_waiting(passenger, self.stages.packet(i)),
+            None => false,
+        }
     }
 
     /// Whether the stage has an instruction and a value that the instruction does not wait for.
