@@ -356,12 +356,13 @@ passing_keeps plan s i stays passed = by_cell (cell_at s.cells i) refl stays pas
     by_cell None e stays passed = unchanged plan s
     by_cell (Some c) e stays passed = by_rider c c.passenger e refl stays passed
 
-meeting_keeps : (plan : Plan) (s : State) (i : ℕ) (spent waits stops : Bool) → rides s i is_spent ≡ spent → waits_on s i ≡ waits →
-    stops_there plan s i ≡ stops → (spent || (waits || (not stops && passes_by s i))) ≡ true → Same plan s (moved plan s (Meet i))
-meeting_keeps plan s i true waits stops e f g keeps = meet_keeps plan s i e
-meeting_keeps plan s i false true stops e f g keeps = waiting-keeps plan s i f
-meeting_keeps plan s i false false true e f g keeps = absurd (cc)
-meeting_keeps plan s i false false false e f g keeps = passing_keeps plan s i g keeps
+meeting_keeps : (plan : Plan) (s : State) (i : ℕ) (spent waits passes stops : Bool) → rides s i is_spent ≡ spent → waits_on s i ≡ waits →
+    passes_by s i ≡ passes → stops_there plan s i ≡ stops → (spent || (waits || (passes && not stops))) ≡ true → Same plan s (moved plan s (Meet i))
+meeting_keeps plan s i true waits passes stops e f g h keeps = meet_keeps plan s i e
+meeting_keeps plan s i false true passes stops e f g h keeps = waiting-keeps plan s i f
+meeting_keeps plan s i false false false stops e f g h keeps = absurd (cc)
+meeting_keeps plan s i false false true true e f g h keeps = absurd (cc)
+meeting_keeps plan s i false false true false e f g h keeps = passing_keeps plan s i h g
 
 -- an instruction that leaves is spent
 leave_spent : (c : Cell) (p : Passenger) → c.passenger ≡ Some p → leave_bar c ≡ None → is_spent p ≡ true
@@ -404,7 +405,8 @@ leave_keeps plan s free = by_cell (cell_at s.cells plan.stages) refl free
 pub moved-same : (plan : Plan) (s : State) (mv : Move) → row_bar plan s mv ≡ None → keeps_marks plan s mv ≡ true → Same plan s (moved plan s mv)
 unfolding keeps_marks
 moved-same plan s (Climb i) free keeps = climb_keeps plan s i free keeps
-moved-same plan s (Meet i) free keeps = meeting_keeps plan s i (rides s i is_spent) (waits_on s i) (stops_there plan s i) refl refl refl keeps
+moved-same plan s (Meet i) free keeps = meeting_keeps plan s i (rides s i is_spent) (waits_on s i) (passes_by s i) (stops_there plan s i)
+    refl refl refl refl keeps
 moved-same plan s (Fall i) free keeps = fall_keeps plan s i free (unset (row_allows plan s (Launch (i - 1))) keeps)
 moved-same plan s Emit free keeps = emit_keeps plan s free (unset (row_allows plan s (Launch plan.stages)) keeps)
 moved-same plan s Leave free keeps = leave_keeps plan s free

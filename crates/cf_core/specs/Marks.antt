@@ -108,7 +108,7 @@ waits_on s i = on (passenger_at s.cells i) false (λ p. on (packet_at s.cells i)
 -- unless it comes to a stage from which an operation can be launched, since it may bar the launch
 unfoldable pub keeps_marks : Plan → State → Move → Bool
 keeps_marks plan s (Climb i) = rides s i is_spent
-keeps_marks plan s (Meet i) = rides s i is_spent || (waits_on s i || (not (stops_there plan s i) && passes_by s i))
+keeps_marks plan s (Meet i) = rides s i is_spent || (waits_on s i || (passes_by s i && not (stops_there plan s i)))
 keeps_marks plan s (Fall i) = not (row_allows plan s (Launch (i - 1)))
 keeps_marks plan s Emit = not (row_allows plan s (Launch plan.stages))
 keeps_marks plan s Leave = true

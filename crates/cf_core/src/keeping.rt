@@ -72,7 +72,7 @@ impl Processor {
             Move::Meet(i) => {
                 self.is_spent_at(i)
                     || self.waits_on(i)
-                    || (!self.stops_by(marks, i) && self.passes_by(i))
+                    || (self.passes_by(i) && !self.stops_by(marks, i))
             }
             Move::Fall(i) => !self.launches_at(marks, i - 1),
             Move::Emit => !self.launches_at(marks, self.stages.count()),
