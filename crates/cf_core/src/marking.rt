@@ -6,12 +6,12 @@ ghost use Rattle.cf_semantics.specs.state.Passengers.{kind as kind_of_passenger}
 ghost use Rattle.cf_stages.specs.Changes.{passenger_at};
 ghost use Rattle.cf_core.specs.Marks.{mark_at, marked, Within, remarked as remarked_by};
 ghost use Rattle.cf_core.specs.Processors.{IsProcessor};
-ghost use Rattle.cf_core.specs.Riders.{StandsBeside, is_idle};
+ghost use Rattle.cf_core.specs.Riders.{StandsBeside, is_idle, is_undone as is_not_done};
 ghost use Rattle.cf_core.specs.Stations.{AreSidingStages, station_of};
 
 use crate::marks::{Marks, StageMark};
 use crate::processor::Processor;
-use crate::riding::is_idle;
+use crate::riding::{is_idle, is_undone};
 use crate::stations::{SidingStages, Station};
 use crate::touching::Touched;
 use cf_bind::Passenger;
@@ -19,21 +19,28 @@ use cf_passengers::kind;
 use rv_inst::Class;
 
 impl Processor {
-    /// The marks of the stage, whose instruction is of a class without a siding.
+    /// The marks of the stage, whose instruction is of a class without a siding, given whether it is live and was not executed.
     #[inline(always)]
     #[tactic(auto, using(crate::proofs::Rides::units, crate::proofs::Tabled::fields), unfolding(crate::specs::Marks::mark_at))]
-    fn mark_at_units(&self, passenger: &Passenger, station: &Station, i: u32) -> StageMark
+    fn mark_at_units(
+        &self,
+        passenger: &Passenger,
+        station: &Station,
+        undone: bool,
+        i: u32,
+    ) -> StageMark
         requires above { 0 < i }
         requires within { i ≤ self.now.plan.stages }
         requires here { passenger_at self.now.state.cells i ≡ Some passenger.now }
         requires station { station.now ≡ station_of self.now.plan (kind_of_passenger passenger.now) }
         requires units { siding_of self.now.plan (kind_of_passenger passenger.now) ≡ None }
+        requires undone { undone ≡ is_not_done passenger.now }
         ensures { result ≡ mark_at self.now.plan self.now.state i }
     {
         StageMark {
             owes: passenger.owes.is_some(),
-            stops: self.stops_at_units(passenger, station.last, i),
-            execute: self.executes(passenger, station.units, i),
+            stops: self.stops_at_units(passenger, undone, station.last, i),
+            execute: self.executes(passenger, undone, station.units, i),
             launch: false,
             recover: false,
         }
@@ -57,7 +64,12 @@ impl Processor {
         StageMark {
             owes: passenger.owes.is_some(),
             stops: self.stops_at_siding(passenger, site, i),
-            execute: self.executes(passenger, self.station(class).units, i),
+            execute: self.executes(
+                passenger,
+                is_undone(passenger),
+                self.station(class).units,
+                i,
+            ),
             launch: self.launches(passenger, class, site, i),
             recover: self.recovers(passenger, site, i),
         }
@@ -77,23 +89,49 @@ impl Processor {
         marks.set(i, mark);
     }
 
-    /// Brings the marks of this stage, where this instruction is, up to date.
-    // It stays a call: with it a move would be too large to become a part of the loop of a run.
-    #[inline(never)]
+    /// Brings the marks of this stage, where this instruction is, up to date, given whether it is live and was not executed.
+    #[inline(always)]
     #[tactic(auto, using(crate::proofs::Tabled::sites))]
-    fn mark_rider(&self, marks: &mut Marks, passenger: &Passenger, i: u32)
+    fn mark_rider(&self, marks: &mut Marks, passenger: &Passenger, undone: bool, i: u32)
         requires above { 0 < i }
         requires within { i ≤ self.now.plan.stages }
         requires facts { IsProcessor self.now.plan self.now.state }
         requires here { passenger_at self.now.state.cells i ≡ Some passenger.now }
+        requires undone { undone ≡ is_not_done passenger.now }
         ensures { marks.new ≡ marked marks.old i (mark_at self.now.plan self.now.state i) }
     {
         self.know_stages();
         let station = self.station(kind(passenger));
         match &station.siding {
             Some(site) => self.mark_beside(marks, passenger, site, i),
-            None => marks.set(i, self.mark_at_units(passenger, station, i)),
+            None => marks.set(i, self.mark_at_units(passenger, station, undone, i)),
         }
+    }
+
+    /// The same for one that is live and was not executed.
+    // It stays a call: with it a move would be too large to become a part of the loop of a run.
+    #[inline(never)]
+    fn mark_undone(&self, marks: &mut Marks, passenger: &Passenger, i: u32)
+        requires above { 0 < i }
+        requires within { i ≤ self.now.plan.stages }
+        requires facts { IsProcessor self.now.plan self.now.state }
+        requires here { passenger_at self.now.state.cells i ≡ Some passenger.now }
+        requires undone { is_not_done passenger.now ≡ true }
+        ensures { marks.new ≡ marked marks.old i (mark_at self.now.plan self.now.state i) }
+    {
+        self.mark_rider(marks, passenger, true, i);
+    }
+
+    /// The same for any, also for one that is dead while its operation has not come back.
+    #[inline(never)]
+    fn mark_any(&self, marks: &mut Marks, passenger: &Passenger, i: u32)
+        requires above { 0 < i }
+        requires within { i ≤ self.now.plan.stages }
+        requires facts { IsProcessor self.now.plan self.now.state }
+        requires here { passenger_at self.now.state.cells i ≡ Some passenger.now }
+        ensures { marks.new ≡ marked marks.old i (mark_at self.now.plan self.now.state i) }
+    {
+        self.mark_rider(marks, passenger, is_undone(passenger), i);
     }
 
     /// The marks of a stage whose instruction waits for no unit and for no siding.
@@ -121,8 +159,9 @@ impl Processor {
     {
         self.know_stages();
         match self.stages.passenger(i) {
+            Some(passenger) if is_undone(passenger) => self.mark_undone(marks, passenger, i),
             Some(passenger) if is_idle(passenger) => marks.set(i, self.mark_idle(passenger, i)),
-            Some(passenger) => self.mark_rider(marks, passenger, i),
+            Some(passenger) => self.mark_any(marks, passenger, i),
             None => marks.set(i, StageMark::of_none()),
         }
     }

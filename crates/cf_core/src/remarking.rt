@@ -15,6 +15,7 @@ ghost use Rattle.cf_core.specs.Stations.{AreSidingStages, station_of};
 
 use crate::marks::Marks;
 use crate::processor::Processor;
+use crate::riding::is_undone;
 use crate::stations::{SidingStages, Station};
 use crate::touching::Touched;
 use cf_bind::Passenger;
@@ -47,7 +48,11 @@ impl Processor {
         self.know_stages();
         let left = with_bit(marks.execute, i, false);
         marks.stops = with_bit(marks.stops, j, stops);
-        marks.execute = with_bit(left, j, self.executes(passenger, units, j));
+        marks.execute = with_bit(
+            left,
+            j,
+            self.executes(passenger, is_undone(passenger), units, j),
+        );
     }
 
     /// The same for an instruction of a class with this siding.
@@ -93,7 +98,7 @@ impl Processor {
         requires units { siding_of self.now.plan (kind_of_passenger passenger.now) ≡ None }
         ensures { marks.new ≡ remarked_by self.now.plan self.now.state marks.old (record { low = i; high = j }) }
     {
-        let stops = self.stops_at_units(passenger, station.last, j);
+        let stops = self.stops_at_units(passenger, is_undone(passenger), station.last, j);
         self.mark_climbed(marks, passenger, station.units, stops, i, j);
     }
 

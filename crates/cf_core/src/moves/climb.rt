@@ -8,12 +8,12 @@ ghost use Rattle.cf_semantics.specs.state.Passengers.{kind as kind_of_passenger}
 ghost use Rattle.cf_stages.specs.Changes.{passenger_at};
 ghost use Rattle.cf_core.specs.Masks.{stops_there};
 ghost use Rattle.cf_core.specs.Processors.{IsProcessor, after_move};
+ghost use Rattle.cf_core.specs.Riders.{is_undone as is_not_done};
 ghost use Rattle.cf_core.specs.Stations.{AreSidingStages};
 
 use crate::moves::launch::is_to_launch;
 use crate::moves::recover::is_to_recover;
 use crate::processor::Processor;
-use crate::riding::is_undone;
 use crate::rows::first_of;
 use crate::stations::SidingStages;
 use cf_bind::{Bar, Passenger};
@@ -41,16 +41,24 @@ impl Processor {
         ])
     }
 
-    /// Whether the instruction must not climb on yet, because this is the last stage with a unit of its class. Its class has no siding.
+    /// Whether the instruction must not climb on yet, because this is the last stage with a unit of its class, given whether it
+    /// is live and was not executed. Its class has no siding.
     #[inline(always)]
     #[tactic(auto, using(crate::proofs::Rides::stops_units))]
-    pub(crate) fn stops_at_units(&self, passenger: &Passenger, last: u32, i: u32) -> bool
+    pub(crate) fn stops_at_units(
+        &self,
+        passenger: &Passenger,
+        undone: bool,
+        last: u32,
+        i: u32,
+    ) -> bool
         requires here { passenger_at self.now.state.cells i ≡ Some passenger.now }
         requires units { siding_of self.now.plan (kind_of_passenger passenger.now) ≡ None }
         requires last { last ≡ last_stage self.now.plan (kind_of_passenger passenger.now) }
+        requires undone { undone ≡ is_not_done passenger.now }
         ensures { result ≡ stops_there self.now.plan self.now.state i }
     {
-        is_undone(passenger) & !passenger.launched & (last == i)
+        undone & !passenger.launched & (last == i)
     }
 
     /// Whether the instruction must not climb on yet, because its siding launches or recovers here.

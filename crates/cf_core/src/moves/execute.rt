@@ -9,9 +9,10 @@ ghost use Rattle.cf_stages.specs.Changes.{passenger_at};
 ghost use Rattle.cf_stages.specs.Words.{word_of};
 ghost use Rattle.cf_core.specs.Marks.{row_allows};
 ghost use Rattle.cf_core.specs.Processors.{IsProcessor, after_move};
+ghost use Rattle.cf_core.specs.Riders.{is_undone as is_not_done};
 
 use crate::processor::Processor;
-use crate::riding::{has_sources, is_undone};
+use crate::riding::has_sources;
 use crate::rows::{first_of, source_bar};
 use cf_bind::{Bar, Passenger};
 use cf_passengers::{finish, kind};
@@ -39,18 +40,20 @@ impl Processor {
         source_bar(&passenger)
     }
 
-    /// Whether no test in the row of Execute holds, given the word of the stages with units of the class.
+    /// Whether no test in the row of Execute holds, given whether the instruction is live and was not executed, and the word of
+    /// the stages with units of its class.
     #[inline(always)]
     #[tactic(auto, using(crate::proofs::Rides::execute_free, crate::proofs::Tabled::unit_bits))]
-    pub(crate) fn executes(&self, passenger: &Passenger, units: u32, i: u32) -> bool
+    pub(crate) fn executes(&self, passenger: &Passenger, undone: bool, units: u32, i: u32) -> bool
         requires above { 0 < i }
         requires within { i ≤ self.now.plan.stages }
         requires here { passenger_at self.now.state.cells i ≡ Some passenger.now }
         requires units { units ≡ word_of (unit_at self.now.plan (kind_of_passenger passenger.now)) self.now.plan.stages }
+        requires undone { undone ≡ is_not_done passenger.now }
         ensures { result ≡ row_allows self.now.plan self.now.state (mv.Execute i) }
     {
         self.know_stages();
-        is_undone(passenger) & has_bit(units, i) && has_sources(passenger)
+        undone & has_bit(units, i) && has_sources(passenger)
     }
 
     /// A unit of the stage executes its instruction.
