@@ -1,5 +1,5 @@
--- A meeting after which the instruction still waits for the value of a source: it could be neither executed nor launched, and
--- still cannot.
+-- A meeting after which the instruction still waits for the value of a source: it could be neither executed nor
+-- launched, and still cannot.
 use Rattle.std.proofs.Common.{◌≡◌, ◌∙◌, ℕ, Option, Some, None, Bool, true, false, refl, sym, ap}
 use Rattle.std.specs.Prelude.{◌&&◌, ◌||◌, ◌==◌, not, if◌then◌else◌}
 use Rattle.cf_bind.specs.declared.binding.Binding.{Binding}

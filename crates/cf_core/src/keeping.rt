@@ -58,7 +58,8 @@ impl Processor {
 
     /// Whether an allowed move leaves the marks of all stages as they are. Most moves do: the moves of an instruction
     /// that has nothing left to do; a meeting with a value, if the instruction still waits for another, or if it waits for
-    /// none and may climb on; and the moves of a result. But a result that comes to a stage with an operation to launch may bar the launch.
+    /// none and may climb on; and the moves of a result. But a result that comes to a stage with an operation to launch may
+    /// bar the launch.
     #[inline(always)]
     #[tactic(auto, using(crate::proofs::Sites::moving), unfolding(crate::specs::Marks::keeps_marks))]
     pub(crate) fn keeps_marks(&self, marks: Marks, m: Move) -> bool

@@ -61,22 +61,18 @@ impl Processor {
         requires site { AreSidingStages self.now.plan class site }
         ensures { result ≡ mark_at self.now.plan self.now.state i }
     {
+        let undone = is_undone(passenger);
         StageMark {
             owes: passenger.owes.is_some(),
             stops: self.stops_at_siding(passenger, site, i),
-            execute: self.executes(
-                passenger,
-                is_undone(passenger),
-                self.station(class).units,
-                i,
-            ),
+            execute: self.executes(passenger, undone, self.station(class).units, i),
             launch: self.launches(passenger, class, site, i),
             recover: self.recovers(passenger, site, i),
         }
     }
 
     /// Brings the marks of this stage up to date, where this instruction, of a class with this siding, is.
-    // It stays a call: most instructions are of a class without a siding, and theirs does with fewer registers.
+    // It stays a call: most instructions are of a class without a siding, and what is done for those needs few registers.
     #[inline(never)]
     fn mark_beside(&self, marks: &mut Marks, passenger: &Passenger, site: &SidingStages, i: u32)
         requires facts { IsProcessor self.now.plan self.now.state }

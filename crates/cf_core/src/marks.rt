@@ -9,7 +9,7 @@ ghost use Rattle.cf_core.specs.Marks.{no_mark, marked};
 // No jump is taken, and the words of one stage have the place of the bit in common.
 #[inline(always)]
 #[tactic(auto, using(crate::proofs::Laid::laying))]
-fn laid(word: u32, i: u32, set: bool) -> u32
+pub(crate) fn laid(word: u32, i: u32, set: bool) -> u32
     requires above { 0 < i }
     requires within { i ≤ 32 }
     ensures { result ≡ with_bit word (i - 1) set }

@@ -13,7 +13,7 @@ ghost use Rattle.cf_core.specs.Masks.{stops_there};
 ghost use Rattle.cf_core.specs.Processors.{IsProcessor};
 ghost use Rattle.cf_core.specs.Stations.{AreSidingStages, station_of};
 
-use crate::marks::Marks;
+use crate::marks::{Marks, laid};
 use crate::processor::Processor;
 use crate::riding::is_undone;
 use crate::stations::{SidingStages, Station};
@@ -47,12 +47,9 @@ impl Processor {
     {
         self.know_stages();
         let left = with_bit(marks.execute, i, false);
-        marks.stops = with_bit(marks.stops, j, stops);
-        marks.execute = with_bit(
-            left,
-            j,
-            self.executes(passenger, is_undone(passenger), units, j),
-        );
+        marks.stops = laid(marks.stops, j, stops);
+        let executes = self.executes(passenger, is_undone(passenger), units, j);
+        marks.execute = laid(left, j, executes);
     }
 
     /// The same for an instruction of a class with this siding.
