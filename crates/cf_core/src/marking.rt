@@ -67,21 +67,28 @@ impl Processor {
             stops: self.stops_at_siding(passenger, site, i),
             execute: self.executes(passenger, undone, self.station(class).units, i),
             launch: self.launches(passenger, class, site, i),
-            recover: self.recovers(passenger, site, i),
+            recover: self.recovers(passenger, class, site, i),
         }
     }
 
     /// Brings the marks of this stage up to date, where this instruction, of a class with this siding, is.
     // It stays a call: most instructions are of a class without a siding, and what is done for those needs few registers.
     #[inline(never)]
-    fn mark_beside(&self, marks: &mut Marks, passenger: &Passenger, site: &SidingStages, i: u32)
+    fn mark_beside(
+        &self,
+        marks: &mut Marks,
+        passenger: &Passenger,
+        class: Class,
+        site: &SidingStages,
+        i: u32,
+    )
         requires facts { IsProcessor self.now.plan self.now.state }
-        requires stands { StandsBeside self.now.plan self.now.state passenger.now (kind_of_passenger passenger.now) site.now.number i }
-        requires site { AreSidingStages self.now.plan (kind_of_passenger passenger.now) site.now }
+        requires stands { StandsBeside self.now.plan self.now.state passenger.now class site.now.number i }
+        requires site { AreSidingStages self.now.plan class site.now }
         ensures { marks.new ≡ marked marks.old i (mark_at self.now.plan self.now.state i) }
     {
         self.know_stages();
-        let mark = self.mark_at_siding(passenger, kind(passenger), *site, i);
+        let mark = self.mark_at_siding(passenger, class, *site, i);
         marks.set(i, mark);
     }
 
@@ -97,9 +104,10 @@ impl Processor {
         ensures { marks.new ≡ marked marks.old i (mark_at self.now.plan self.now.state i) }
     {
         self.know_stages();
-        let station = self.station(kind(passenger));
+        let class = kind(passenger);
+        let station = self.station(class);
         match &station.siding {
-            Some(site) => self.mark_beside(marks, passenger, site, i),
+            Some(site) => self.mark_beside(marks, passenger, class, site, i),
             None => marks.set(i, self.mark_at_units(passenger, station, undone, i)),
         }
     }

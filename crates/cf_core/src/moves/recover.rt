@@ -1,8 +1,10 @@
 //! Recover: the instruction of a stage takes its operation out of the siding.
 
-ghost use Rattle.std.specs.Prelude.{◌≡◌, ◌==◌, ◌&&◌, Some, None};
+ghost use Rattle.std.specs.Prelude.{◌≡◌, ◌==◌, ◌<◌, ◌&&◌, length, not, Some, None};
 ghost use Rattle.cf_bind.specs.declared.moves.Move.TheVariants as mv;
+ghost use Rattle.cf_layout.specs.Layout.{siding_of};
 ghost use Rattle.cf_semantics.specs.moves.Bars.{exit_op_bar as bar_of_return, row_bar};
+ghost use Rattle.cf_semantics.specs.state.Options.{is_some};
 ghost use Rattle.cf_semantics.specs.state.Passengers.{kind as kind_of_passenger};
 ghost use Rattle.cf_stages.specs.Changes.{passenger_at};
 ghost use Rattle.cf_core.specs.Marks.{row_allows};
@@ -17,6 +19,7 @@ use crate::siding_ends::is_memory;
 use crate::stations::SidingStages;
 use cf_bind::{Bar, Passenger};
 use cf_passengers::{kind, recover, recovers};
+use rv_inst::Class;
 
 /// Whether the siding recovers at this stage, and the operation of the instruction is yet to come back.
 #[inline(always)]
@@ -64,16 +67,39 @@ impl Processor {
         self.return_bar(&passenger)
     }
 
+    /// Whether the operation is at the end of the siding, and answered. The siding is that of the class of the instruction.
+    #[inline(always)]
+    #[tactic(auto, using(crate::proofs::Ported::ported))]
+    fn has_returned(&self, passenger: &Passenger, class: Class, k: u32) -> bool
+        requires facts { IsProcessor self.now.plan self.now.state }
+        requires class { class ≡ kind_of_passenger passenger.now }
+        requires siding { siding_of self.now.plan (kind_of_passenger passenger.now) ≡ Some k }
+        requires inside { k < length self.now.plan.sidings }
+        ensures { result ≡ not (is_some (bar_of_return self.now.plan self.now.state passenger.now)) }
+    {
+        match self.last_op(k) {
+            Some(op) => !is_memory(class) || op.answer.is_some(),
+            None => false,
+        }
+    }
+
     /// Whether no test in the row of Recover holds. The siding is that of the class of the instruction.
     #[inline(always)]
     #[tactic(auto, using(crate::proofs::Rides::recover_free))]
-    pub(crate) fn recovers(&self, passenger: &Passenger, site: SidingStages, i: u32) -> bool
+    pub(crate) fn recovers(
+        &self,
+        passenger: &Passenger,
+        class: Class,
+        site: SidingStages,
+        i: u32,
+    ) -> bool
         requires facts { IsProcessor self.now.plan self.now.state }
         requires here { passenger_at self.now.state.cells i ≡ Some passenger.now }
+        requires class { class ≡ kind_of_passenger passenger.now }
         requires site { AreSidingStages self.now.plan (kind_of_passenger passenger.now) site }
         ensures { result ≡ row_allows self.now.plan self.now.state (mv.Recover i) }
     {
-        is_to_recover(passenger, site, i) && self.return_bar(passenger).is_none()
+        is_to_recover(passenger, site, i) && self.has_returned(passenger, class, site.number)
     }
 
     /// The instruction of the stage takes its operation out of the siding. A live one finishes.
