@@ -17,7 +17,7 @@ use Rattle.cf_stages.specs.Changes.{cells_lifted, passenger_at}
 use Rattle.cf_stages.specs.Words.{with_bit, word_of}
 use Rattle.cf_stages.proofs.Bits.{word-bit, word-small}
 use Rattle.cf_stages.proofs.Carries.{bit-kept}
-use Rattle.cf_core.specs.Climbing.{ClimbsTo, HasClimbed, work_of}
+use Rattle.cf_core.specs.Climbing.{HasClimbed, work_of}
 use Rattle.cf_core.specs.Marks.{mark_at, marked, marks_of, no_mark, remarked, row_allows}
 use Rattle.cf_core.specs.Masks.{rides, stops_there}
 use Rattle.cf_core.specs.Places.{with_cells}
@@ -127,19 +127,18 @@ mark_before plan s i q e owes stays =
     let recover = unrecovered-there plan s i q e stop in
     λ x. record { owes = owe x; stops = stop x; execute = row_allows plan s (Execute i); launch = launch x; recover = recover x }
 
-some_rider : (o : Option Passenger) → IsSome o → (q : Passenger) × (o ≡ Some q)
+pub some_rider : (o : Option Passenger) → IsSome o → (q : Passenger) × (o ≡ Some q)
 some_rider None h = absurd (cc)
 some_rider (Some q) h = (q, refl)
 
-pub has-climbed : (p new : Processor) (marks : Marks) (i j : ℕ) → IsProcessor p.plan p.state → bar p.plan p.state (Climb i) ≡ None → ClimbsTo p i j →
+pub has-climbed : (p new : Processor) (marks : Marks) (i j : ℕ) → IsProcessor p.plan p.state → bar p.plan p.state (Climb i) ≡ None → i < j →
     j ≤ p.plan.stages → IsNone (passenger_at p.state.cells j) → new ≡ with_cells p (cells_lifted p.state.cells i j) → marks ≡ marks_of p.plan p.state →
     HasClimbed new.plan new.state marks i j
-has-climbed p new marks i j h free climbs within room is kept =
+has-climbed p new marks i j h free up within room is kept =
     let stage = climb-stage p i h free in
     let q = some_rider (passenger_at p.state.cells i) stage.2 in
     let r = rider p i q.0 h free q.1 in
-    let e = ends p i j h stage.0 climbs.higher within in
-    let up = climbs.higher in
+    let e = ends p i j h stage.0 up within in
     let few = h.accepted.stages.1 in
     let same : e.from.passenger ≡ Some q.0 = sym (ap (λ (o : Option Cell). on o None (λ c. c.passenger)) e.here) ∙ q.1 in
     let top = at-top p.state.cells i j e.from e.to e.here e.there in

@@ -1,5 +1,5 @@
 -- The words that are kept are those of the state after a move, made or failed.
-use Rattle.std.proofs.Common.{◌≡◌, ◌∙◌, ℕ, [], Bool, true, Option, Some, None, Result, Ok, Err, refl, sym, ap, subst}
+use Rattle.std.proofs.Common.{◌≡◌, ◌∙◌, ℕ, [], Bool, Option, Some, None, Result, Ok, Err, refl, sym, ap, subst}
 use Rattle.cf_bind.specs.declared.cell.Cell.{Cell}
 use Rattle.cf_bind.specs.declared.moves.Move.{Move}
 use Rattle.cf_bind.specs.declared.moves.Move.TheVariants.{Serve}
@@ -16,7 +16,7 @@ use Rattle.cf_semantics.specs.state.State.{Moment, State, cell_at, with_cell}
 use Rattle.cf_stages.proofs.Bits.{word-agrees}
 use Rattle.rv_machine.specs.Call.{Called, Value, Exit}
 use Rattle.rv_machine.specs.Streams.{Streams}
-use Rattle.cf_core.specs.Marks.{Within, keeps_marks, mark_at, marks_of, remarked, touched}
+use Rattle.cf_core.specs.Marks.{Within, mark_at, marks_of, remarked, touched}
 use Rattle.cf_core.specs.Processors.{Processor, IsProcessor}
 use Rattle.cf_core.specs.Stepping.{MakesOrFails}
 use Rattle.cf_core.specs.declared.fault.Fault.{Fault}
@@ -28,7 +28,7 @@ use Rattle.cf_core.proofs.Bits.{SameBut, marks-two}
 use Rattle.cf_core.proofs.SameStages.{Same}
 use Rattle.cf_core.proofs.StillMarks.{moved-same}
 use Rattle.cf_core.proofs.moves.KeptServe.{unbarred}
-use Rattle.cf_core.proofs.SameMarks.{cell-but, rest-but, rest-same}
+use Rattle.cf_core.proofs.SameMarks.{cell-but, rest-but}
 use Rattle.cf_core.proofs.Sites.{touched-within}
 use Rattle.cf_core.proofs.Steps.{next_moved}
 use Rattle.cf_core.proofs.Touched.{moved-but}
@@ -95,25 +95,7 @@ pub made-within : (old new : Processor) (mv : Move) (before after : Streams) (r 
 made-within old new mv before after r t h free made touches =
     rw (touches, same-plan old new mv before after r made) (touched-within old.plan old.state mv h (unbarred old.plan old.state mv free))
 
--- A move that leaves them as they are --
-
-next_same : (plan : Plan) (m : Moment) (mv : Move) → row_bar plan m.state mv ≡ None → keeps_marks plan m.state mv ≡ true →
-    Same plan m.state (next plan m mv).state
-unfolding keeps_marks
-next_same plan m Serve free keeps = absurd (cc)
-next_same plan m mv free keeps = subst (λ (q : Moment). Same plan m.state q.state) (sym (next_moved plan m mv (λ e. absurd (cc))))
-    (moved-same plan m.state mv free keeps)
-
-made_same : (old new : Processor) (mv : Move) (before after : Streams) (r : Result Event Fault) → row_bar old.plan old.state mv ≡ None →
-    MakesOrFails old new mv before after r → keeps_marks old.plan old.state mv ≡ true → Same old.plan old.state new.state
-unfolding MakesOrFails
-made_same old new mv before after (Ok e) free h keeps =
-    let m : Moment = record { state = old.state; rest = h.0.rest; output = [] } in
-    subst (λ (q : Moment). Same old.plan old.state q.state) h.0.is (next_same old.plan m mv free keeps)
-made_same old new mv before after (Err fault.Read) free h keeps = rest-same old.plan old.state new.state (ap (λ (p : Processor). p.state.cells) h.1.processor)
-    (ap (λ (p : Processor). p.state.sidings) h.1.processor)
-made_same old new mv before after (Err fault.Write) free h keeps = rest-same old.plan old.state new.state (ap (λ (p : Processor). p.state.cells) h.1.processor)
-    (ap (λ (p : Processor). p.state.sidings) h.1.processor)
+-- The words of a state for whose stages the same holds --
 
 pub marks-same : (plan : Plan) (s t : State) → Same plan s t → marks_of plan s ≡ marks_of plan t
 unfolding marks_of
@@ -126,10 +108,3 @@ marks-same plan s t same =
     let launch = word (λ m. m.launch) in
     let recover = word (λ m. m.recover) in
     λ x. record { owes = owes x; stops = stops x; execute = execute x; launch = launch x; recover = recover x }
-
-pub kept-marks : (old new : Processor) (marks : Marks) (mv : Move) (before after : Streams) (r : Result Event Fault) → bar old.plan old.state mv ≡ None →
-    MakesOrFails old new mv before after r →
-    marks ≡ marks_of old.plan old.state → keeps_marks old.plan old.state mv ≡ true → marks ≡ marks_of new.plan new.state
-kept-marks old new marks mv before after r free made is keeps =
-    let row = unbarred old.plan old.state mv free in
-    rw (is, same-plan old new mv before after r made) (marks-same old.plan old.state new.state (made_same old new mv before after r row made keeps))

@@ -32,3 +32,5 @@ pub mod Lacking
 pub mod StillMarks
 pub mod Tabled
 pub mod Laid
+pub mod Made
+pub mod OneClimb

@@ -76,9 +76,9 @@ lifted_on cells i k l c e d up on_up here there beyond none unmet =
 
 -- One Climb --
 
-moved_climb : (plan : Plan) (s : State) (k : ℕ) → moved plan s (Climb k) ≡ record s { cells = cells_lifted s.cells k (k + 1) }
+pub moved-climb : (plan : Plan) (s : State) (k : ℕ) → moved plan s (Climb k) ≡ record s { cells = cells_lifted s.cells k (k + 1) }
 unfolding moved cells_lifted
-moved_climb plan s k = by (cell_at s.cells k) (cell_at s.cells (k + 1))
+moved-climb plan s k = by (cell_at s.cells k) (cell_at s.cells (k + 1))
   where
     by : (o a : Option Cell) → on o s (λ c. on a s (stage_climbed s k c))
         ≡ record s {
@@ -232,7 +232,7 @@ unfolding climbed
 climbed_by p i j q r f zero within =
     let z : i + zero ≡ i = omega arith in
     let one : i + suc zero ≡ i + 1 = omega arith in
-    rw (z, one) (ap (in_state p) (moved_climb p.plan p.state i))
+    rw (z, one) (ap (in_state p) (moved-climb p.plan p.state i))
 climbed_by p i j q r f (suc n) within =
     let k = i + suc n in
     let next : i + suc (suc n) ≡ k + 1 = omega arith in
@@ -241,7 +241,7 @@ climbed_by p i j q r f (suc n) within =
     let high = step p i j q r f (k + 1) (omega arith) (omega (arith, next)) in
     let on_to = lifted_on p.state.cells i k (k + 1) r.from low.cell high.cell (omega arith) (omega arith) r.here low.there high.there low.none low.unmet in
     ap (λ (x : Processor). after_move x (Climb k)) before
-    ∙ ap (in_state p) (moved_climb p.plan (with_cells p (cells_lifted p.state.cells i k)).state k)
+    ∙ ap (in_state p) (moved-climb p.plan (with_cells p (cells_lifted p.state.cells i k)).state k)
     ∙ ap (with_cells p) (on_to ∙ ap (cells_lifted p.state.cells i) (sym next))
 
 -- its Climb from a stage above is barred if and only if it is blocked there

@@ -27,4 +27,4 @@ pub inside-makes : (old new : Processor) (mv : Move) (streams : Streams) (e : Ev
 unfolding MakesOrFails
 inside-makes old new mv streams e other is event = (move-makes old new mv streams other is, event)
 
-pub ruleset stepping = (move-makes)
+pub ruleset stepping = (inside-makes)

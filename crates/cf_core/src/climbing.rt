@@ -53,7 +53,7 @@ impl Processor {
 
     /// The class of the instruction of the stage, if a unit or a siding has still something to do with it.
     #[inline(always)]
-    fn work_at(&self, i: u32) -> Option<Class>
+    pub(crate) fn work_at(&self, i: u32) -> Option<Class>
         requires above { 0 < i }
         requires within { i ≤ self.now.plan.stages }
         requires facts { IsProcessor self.now.plan self.now.state }

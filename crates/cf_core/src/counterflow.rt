@@ -253,14 +253,7 @@ impl Core {
         ensures input_asked { (AsksInput self.old m → ⊥) → input.new ≡ input.old }
         ensures output_asked { (AsksOutput self.old m → ⊥) → output.new ≡ output.old }
     {
-        let keeps = self.processor.keeps_marks(self.marks, m);
-        let touched = self.processor.touched(m);
-        let made = self.processor.make(m, input, output);
-        if keeps {
-            return made;
-        }
-        self.processor.remark(&mut self.marks, touched);
-        made
+        self.processor.make(&mut self.marks, m, input, output)
     }
 
     /// Makes an allowed move other than Serve, without testing its bars again, and answers what is seen of it from outside.
@@ -273,14 +266,7 @@ impl Core {
         ensures processor { self.new ≡ after_move self.old m }
         ensures event { IsEvent self.old.plan self.old.state m result }
     {
-        let keeps = self.processor.keeps_marks(self.marks, m);
-        let touched = self.processor.touched(m);
-        let event = self.processor.make_inside(m);
-        if keeps {
-            return event;
-        }
-        self.processor.remark(&mut self.marks, touched);
-        event
+        self.processor.make_marked(&mut self.marks, m)
     }
 
     /// Makes a move, if nothing bars it.

@@ -10,6 +10,7 @@ mod fault;
 mod issuing;
 mod keeping;
 pub mod laws;
+mod making;
 mod marking;
 mod marks;
 mod masks;

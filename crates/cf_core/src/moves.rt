@@ -20,18 +20,13 @@ mod serve;
 mod slide;
 
 ghost use Rattle.std.specs.Prelude.{◌≡◌, ◌≢◌, ◌+◌, ◌<◌, ◌^◌, None};
-ghost use Rattle.rv_machine.specs.Streams.{streams_of};
 ghost use Rattle.cf_bind.specs.declared.moves.Move.TheVariants as mv;
 ghost use Rattle.cf_semantics.specs.moves.Bars.{row_bar as bar_of_row, bar as first_bar};
 ghost use Rattle.cf_semantics.specs.moves.Events.{IsEvent};
-ghost use Rattle.cf_core.specs.Asking.{AsksInput, AsksOutput, LeavesStream};
 ghost use Rattle.cf_core.specs.Processors.{IsProcessor, after_move};
-ghost use Rattle.cf_core.specs.Stepping.{MakesOrFails, input_made, output_made};
 
-use crate::fault::Fault;
 use crate::processor::Processor;
 use cf_bind::{Bar, Move};
-use cf_io::{Sink, Source};
 use cf_semantics::Event;
 
 impl Processor {
@@ -75,7 +70,7 @@ impl Processor {
         }
     }
 
-    /// Makes an allowed move, which is not Serve, and returns what is seen of it.
+    /// Makes an allowed move, which is not Serve, and returns what is seen of it. The marks stay as they are.
     // Rare moves remain calls; the frequent ones become part of the loop of a run.
     #[inline(always)]
     pub(crate) fn make_inside(&mut self, m: Move) -> Event
@@ -103,32 +98,5 @@ impl Processor {
             Move::Serve => unreachable!(),
         }
         Event::Plain
-    }
-
-    /// Makes an allowed move, and returns what is seen of it, or that the input or the output failed it.
-    #[inline(always)]
-    #[tactic(auto, using(crate::proofs::Steps::stepping), unfolding(cf_semantics::specs::moves::Bars::bar, crate::specs::Stepping::MakesOrFails))]
-    pub(crate) fn make<S: Source, K: Sink>(
-        &mut self,
-        m: Move,
-        input: &mut S,
-        output: &mut K,
-    ) -> Result<Event, Fault>
-        requires facts { IsProcessor self.old.plan self.old.state }
-        requires allowed { first_bar self.old.plan self.old.state m ≡ None }
-        requires count { m ≡ mv.Leave → self.old.state.retired + 1 < 2 ^ 64 }
-        ensures makes { MakesOrFails self.old self.new m
-            (streams_of (S.left input.old) (K.written output.old))
-            (streams_of (S.left input.new) (K.written output.new)) result }
-        ensures input { LeavesStream S.faults (AsksInput self.old m) input.old input.new (input_made result) }
-        ensures output { LeavesStream K.faults (AsksOutput self.old m) output.old output.new (output_made result) }
-    {
-        match m {
-            Move::Serve => match self.serve(input, output) {
-                Ok(()) => Ok(Event::Plain),
-                Err(fault) => Err(fault),
-            },
-            _ => Ok(self.make_inside(m)),
-        }
     }
 }

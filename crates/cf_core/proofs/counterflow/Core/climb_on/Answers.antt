@@ -27,7 +27,7 @@ pub remark_climb-requires-clause-climbed : goal.remark_climb-requires-clause-cli
 remark_climb-requires-clause-climbed c =
     let free = subst (λ (p : Processor). bar p.plan p.state (Climb c.args.i) ≡ None) (sym c.self.view_is) c.requires in
     has-climbed c.self.inside.processor c.climb_on-to.new.self c.self.inside.marks c.args.i c.climb_on-to.result c.self.invariant.0 free
-    c.climb_on-to.ensures.climbs c.climb_on-to.ensures.within c.climb_on-to.ensures.room c.climb_on-to.ensures.cells c.self.invariant.1
+    c.climb_on-to.ensures.climbs.higher c.climb_on-to.ensures.within c.climb_on-to.ensures.room c.climb_on-to.ensures.cells c.self.invariant.1
 
 pub remark_climb-requires-clause-class : goal.remark_climb-requires-clause-class
 remark_climb-requires-clause-class c =

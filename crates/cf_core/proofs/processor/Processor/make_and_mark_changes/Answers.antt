@@ -1,0 +1,23 @@
+-- The words are brought up to date at the two stages that the move touches, or are what they were.
+use Rattle.std.proofs.Common.{◌∙◌, sym}
+use Rattle.cf_core.proofs.Made.{facts-after, marks-after, marks-stay, within-after}
+use Rattle.cf_core.proofs.processor.Processor.make_and_mark_changes.Goals as goal
+
+pub update-requires-clause-within : goal.update-requires-clause-within
+update-requires-clause-within c =
+    within-after c.args.self.now c.make_inside-event.new.self c.args.m c.touched-touched.result c.requires.facts c.requires.allowed
+    c.make_inside-event.ensures.processor c.touched-touched.ensures
+
+pub update-requires-clause-facts : goal.update-requires-clause-facts
+update-requires-clause-facts c =
+    facts-after c.args.self.now c.make_inside-event.new.self c.args.m c.requires.facts c.requires.allowed c.make_inside-event.ensures.processor
+
+pub returns-then-keeps-clause-marks : goal.returns-then-keeps-clause-marks
+returns-then-keeps-clause-marks c =
+    marks-stay c.args.self.now c.make_inside-event.new.self c.args.marks.now c.args.m c.requires.allowed c.make_inside-event.ensures.processor
+    c.requires.marks (sym c.keeps_marks-keeps.ensures ∙ c.if-keeps.true)
+
+pub returns-clause-marks : goal.returns-clause-marks
+returns-clause-marks c =
+    c.update.ensures ∙ marks-after c.args.self.now c.make_inside-event.new.self c.args.marks.now c.args.m c.touched-touched.result c.requires.facts
+    c.requires.allowed c.make_inside-event.ensures.processor c.requires.marks c.touched-touched.ensures
