@@ -26,7 +26,6 @@ use Rattle.cf_core.specs.declared.marks.Marks.{Marks}
 use Rattle.cf_core.specs.declared.touching.Touched.{Touched}
 use Rattle.cf_core.proofs.Bits.{SameBut, marks-two}
 use Rattle.cf_core.proofs.SameStages.{Same}
-use Rattle.cf_core.proofs.StillMarks.{moved-same}
 use Rattle.cf_core.proofs.moves.KeptServe.{unbarred}
 use Rattle.cf_core.proofs.SameMarks.{cell-but, rest-but}
 use Rattle.cf_core.proofs.Sites.{touched-within}
