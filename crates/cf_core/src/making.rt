@@ -175,8 +175,8 @@ impl Processor {
     }
 
     /// Makes an allowed Serve and brings the marks up to date.
-    // It is rare, so that it stays a call.
-    #[inline(never)]
+    // The environment's part is a call. This is not, so that what any other move shows need not go through memory.
+    #[inline(always)]
     #[tactic(auto, using(crate::proofs::moves::KeptServe::making))]
     fn make_serve<S: Source, K: Sink>(
         &mut self,
