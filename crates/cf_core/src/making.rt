@@ -7,29 +7,18 @@ ghost use Rattle.cf_bind.specs.declared.moves.Move.TheVariants as mv;
 ghost use Rattle.cf_semantics.specs.moves.Bars.{bar as first_bar, row_bar};
 ghost use Rattle.cf_semantics.specs.moves.Events.{IsEvent};
 ghost use Rattle.cf_core.specs.Asking.{AsksInput, AsksOutput, LeavesStream};
-ghost use Rattle.cf_core.specs.Marks.{Within, marks_of, remarked as remarked_by};
+ghost use Rattle.cf_core.specs.Marks.{marks_of};
 ghost use Rattle.cf_core.specs.Processors.{IsProcessor, after_move};
 ghost use Rattle.cf_core.specs.Stepping.{MakesOrFails, input_made, output_made};
 
 use crate::fault::Fault;
 use crate::marks::Marks;
 use crate::processor::Processor;
-use crate::touching::Touched;
 use cf_bind::Move;
 use cf_io::{Sink, Source};
 use cf_semantics::Event;
 
 impl Processor {
-    /// Brings the marks of the touched stages up to date.
-    #[inline(always)]
-    fn update(&self, marks: &mut Marks, touched: Touched)
-        requires within { Within self.now.plan touched }
-        requires facts { IsProcessor self.now.plan self.now.state }
-        ensures { marks.new ≡ remarked_by self.now.plan self.now.state marks.old touched }
-    {
-        *marks = self.remarked(*marks, touched);
-    }
-
     /// Makes an allowed move, which is not Serve, and marks the stages that it touched, without a test whether their
     /// marks stay as they were.
     #[inline(always)]
@@ -44,7 +33,7 @@ impl Processor {
     {
         let touched = self.touched(m);
         self.make_inside(m);
-        self.update(marks, touched);
+        self.remark(marks, touched);
     }
 
     /// The same as a call, for moves that are rare.
@@ -99,7 +88,7 @@ impl Processor {
         if keeps {
             return event;
         }
-        self.update(marks, touched);
+        self.remark(marks, touched);
         event
     }
 
@@ -196,7 +185,7 @@ impl Processor {
     {
         let touched = self.touched(Move::Serve);
         let made = self.serve_seen(input, output);
-        self.update(marks, touched);
+        self.remark(marks, touched);
         made
     }
 

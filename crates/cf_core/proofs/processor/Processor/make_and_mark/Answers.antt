@@ -3,16 +3,16 @@ use Rattle.std.proofs.Common.{◌∙◌}
 use Rattle.cf_core.proofs.Made.{facts-after, marks-after, within-after}
 use Rattle.cf_core.proofs.processor.Processor.make_and_mark.Goals as goal
 
-pub update-requires-clause-within : goal.update-requires-clause-within
-update-requires-clause-within c =
+pub remark-requires-clause-within : goal.remark-requires-clause-within
+remark-requires-clause-within c =
     within-after c.args.self.now c.make_inside.new.self c.args.m c.touched-touched.result c.requires.facts c.requires.allowed
     c.make_inside.ensures.processor c.touched-touched.ensures
 
-pub update-requires-clause-facts : goal.update-requires-clause-facts
-update-requires-clause-facts c =
+pub remark-requires-clause-facts : goal.remark-requires-clause-facts
+remark-requires-clause-facts c =
     facts-after c.args.self.now c.make_inside.new.self c.args.m c.requires.facts c.requires.allowed c.make_inside.ensures.processor
 
 pub returns-clause-marks : goal.returns-clause-marks
 returns-clause-marks c =
-    c.update.ensures ∙ marks-after c.args.self.now c.make_inside.new.self c.args.marks.now c.args.m c.touched-touched.result c.requires.facts
+    c.remark.ensures ∙ marks-after c.args.self.now c.make_inside.new.self c.args.marks.now c.args.m c.touched-touched.result c.requires.facts
     c.requires.allowed c.make_inside.ensures.processor c.requires.marks c.touched-touched.ensures

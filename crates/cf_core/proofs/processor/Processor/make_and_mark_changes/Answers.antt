@@ -3,13 +3,13 @@ use Rattle.std.proofs.Common.{◌∙◌, sym}
 use Rattle.cf_core.proofs.Made.{facts-after, marks-after, marks-stay, within-after}
 use Rattle.cf_core.proofs.processor.Processor.make_and_mark_changes.Goals as goal
 
-pub update-requires-clause-within : goal.update-requires-clause-within
-update-requires-clause-within c =
+pub remark-requires-clause-within : goal.remark-requires-clause-within
+remark-requires-clause-within c =
     within-after c.args.self.now c.make_inside-event.new.self c.args.m c.touched-touched.result c.requires.facts c.requires.allowed
     c.make_inside-event.ensures.processor c.touched-touched.ensures
 
-pub update-requires-clause-facts : goal.update-requires-clause-facts
-update-requires-clause-facts c =
+pub remark-requires-clause-facts : goal.remark-requires-clause-facts
+remark-requires-clause-facts c =
     facts-after c.args.self.now c.make_inside-event.new.self c.args.m c.requires.facts c.requires.allowed c.make_inside-event.ensures.processor
 
 pub returns-then-keeps-clause-marks : goal.returns-then-keeps-clause-marks
@@ -19,5 +19,5 @@ returns-then-keeps-clause-marks c =
 
 pub returns-clause-marks : goal.returns-clause-marks
 returns-clause-marks c =
-    c.update.ensures ∙ marks-after c.args.self.now c.make_inside-event.new.self c.args.marks.now c.args.m c.touched-touched.result c.requires.facts
+    c.remark.ensures ∙ marks-after c.args.self.now c.make_inside-event.new.self c.args.marks.now c.args.m c.touched-touched.result c.requires.facts
     c.requires.allowed c.make_inside-event.ensures.processor c.requires.marks c.touched-touched.ensures
