@@ -3,6 +3,7 @@ pub mod Carries
 pub mod Cells
 pub mod Deciding
 pub mod Empty
+pub mod InTurn
 pub mod Kept
 pub mod Lifted
 pub mod Meetings

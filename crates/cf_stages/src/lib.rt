@@ -3,6 +3,7 @@
 
 mod changes;
 mod comparing;
+mod falling;
 mod lending;
 mod moving;
 mod places;
@@ -10,5 +11,6 @@ mod stages;
 mod words;
 
 pub use cf_bind::Cell;
+pub use falling::Fallen;
 pub use stages::Stages;
 pub use words::{has_bit, with_bit};
