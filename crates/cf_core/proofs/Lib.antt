@@ -30,6 +30,7 @@ pub mod ClimbMarks
 pub mod SameStages
 pub mod Lacking
 pub mod StillMarks
+pub mod FallMarks
 pub mod Tabled
 pub mod Laid
 pub mod Made

@@ -10,3 +10,4 @@ pub mod Places
 pub mod Riders
 pub mod Stations
 pub mod Climbing
+pub mod Falling

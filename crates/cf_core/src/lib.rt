@@ -6,6 +6,7 @@ mod before;
 mod climbing;
 mod counterflow;
 mod draining;
+mod falling;
 mod fault;
 mod issuing;
 mod keeping;
@@ -32,6 +33,7 @@ mod weighing;
 
 pub use cf_bind::{Cell, Op};
 pub use cf_semantics::Event;
+pub use cf_stages::Fallen;
 pub use counterflow::Core;
 pub use fault::Fault;
 pub use issuing::Issuable;
