@@ -32,6 +32,7 @@ pub mod EmptySidings
 pub mod PackedWords
 pub mod LowestBits
 pub mod LeftStages
+pub mod FallsInTurn
 pub mod LeftFalls
 pub mod LeftClimbs
 pub mod LowestNext

@@ -19,6 +19,7 @@ use Rattle.cf_semantics.specs.moves.Moves.{moved, without_packet}
 use Rattle.cf_semantics.specs.state.Options.{on, is_some}
 use Rattle.cf_semantics.specs.state.State.{State, cell_at, put_cell}
 use Rattle.cf_stages.specs.Changes.{passenger_at}
+use Rattle.cf_stages.specs.Falling.{rests}
 use Rattle.cf_stages.specs.Words.{word_of}
 use Rattle.theory_refinement.proofs.moves.Rows.{bar_row}
 use Rattle.cf_stages.proofs.Bits.{word-bit, word-bit-above}
@@ -138,6 +139,21 @@ full_is (Some c) = grind arith
 
 full_has : (plan : Plan) (s : State) (m : Masks) (k : ℕ) → Bits plan s m k → full_bit m k ≡ full_in (cell_at s.cells (k + 1))
 full_has plan s m k b = rw (b.riding, b.flying, b.together) (full_is (cell_at s.cells (k + 1)))
+
+-- a result is in the stage, or one rests there
+pub packet-has : (plan : Plan) (s : State) (m : Masks) (k : ℕ) → m ≡ masks_of plan s → length s.cells ≡ plan.stages →
+    has_bit m.packets k ≡ on (cell_at s.cells (k + 1)) false (λ c. is_some c.packet)
+unfolding flying
+packet-has plan s m k e same = (bits plan s m k e same).flying
+
+pub resting-has : (plan : Plan) (s : State) (m : Masks) (k : ℕ) → m ≡ masks_of plan s → length s.cells ≡ plan.stages →
+    (has_bit m.packets k && not (full_bit m k)) ≡ rests s.cells (k + 1)
+unfolding flying full_in
+resting-has plan s m k e same = let b = bits plan s m k e same in rw (full_has plan s m k b, b.flying) (by (cell_at s.cells (k + 1)))
+  where
+    by : (o : Option Cell) → (flying o && not (full_in o)) ≡ on o false (λ c. is_some c.packet && not (is_full c))
+    by None = refl
+    by (Some c) = refl
 
 -- Climb
 climb_row : (plan : Plan) (i : ℕ) (o a : Option Cell) →
@@ -351,7 +367,7 @@ recover-stages plan s m e k = rw e (word-has (λ i. is_allowed plan s (Recover i
 
 -- The ends of the pipes, where the processor goes on --
 
-going_free : (plan : Plan) (s : State) (mv : Move) → goes_on s ≡ true → is_allowed plan s mv ≡ not (is_some (row_bar plan s mv))
+pub going_free : (plan : Plan) (s : State) (mv : Move) → goes_on s ≡ true → is_allowed plan s mv ≡ not (is_some (row_bar plan s mv))
 going_free plan s mv on = allowed-as plan s mv (is_some s.ending) s.failed refl refl ∙ ap (λ (b : Bool). b && not (is_some (row_bar plan s mv))) on
 
 exit_row : (o : Option Cell) → not (is_some (on o (Some NoSuchSite) exit_bar)) ≡ (flying o && not (full_in o))

@@ -10,6 +10,7 @@ mod entering;
 mod fill;
 mod guiding;
 mod idle;
+mod in_turn;
 mod known;
 mod leaving;
 mod once_kinds;
@@ -29,6 +30,7 @@ mod visiting;
 mod words;
 
 pub use candidates::Candidates;
+pub use in_turn::{falls_bar_no_launch, results_at_rest};
 pub use known::is_known_allowed;
 pub use once_kinds::{AccessKind, EmitKind, ExitKind, LeaveKind, OnceKind};
 pub use packed::PackedCandidates;

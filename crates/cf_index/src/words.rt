@@ -91,6 +91,14 @@ pub(crate) fn resting(masks: &Masks) -> u32
     without(masks.packets, full(masks))
 }
 
+/// The stages below one with a result from which an operation can be launched.
+#[inline(always)]
+pub(crate) fn below_results(masks: &Masks) -> u32
+    ensures { (k : ℕ) → has_bit result k ≡ (has_bit masks.now.launch k && has_bit masks.now.packets (k + 1)) }
+{
+    common(masks.launch, above(masks.packets))
+}
+
 /// The stages where the result can fall.
 #[inline(always)]
 pub(crate) fn falling(masks: &Masks) -> u32
