@@ -20,6 +20,7 @@ pub mod Coming
 pub mod Occupied
 pub mod Turning
 pub mod Climbing
+pub mod Falling
 pub mod Headline
 pub mod Ending
 pub mod Opened

@@ -5,9 +5,11 @@
 ghost use Rattle.std.specs.Prelude.{◌≡◌, ◌≢◌, ◌+◌, ◌-◌, ◌<◌, ◌≤◌, Some};
 ghost use Rattle.cf_bind.specs.declared.moves.Move.TheVariants as mv;
 ghost use Rattle.cf_core.specs.Climbing.{ClimbsTo, climbed};
+ghost use Rattle.cf_core.specs.Falling.{BarNoLaunch};
 ghost use Rattle.cf_core.specs.Processors.{IsProcessor, after_move};
+ghost use Rattle.cf_index.specs.Left.{AreLeft};
 ghost use Rattle.cf_index.specs.Order.{kind_place, leave_place};
-ghost use Rattle.cf_index.specs.PickedFrom.{from_climb, from_emit, from_fall, outward_on};
+ghost use Rattle.cf_index.specs.PickedFrom.{from_climb, from_emit, from_fall, from_meet, outward_on};
 ghost use Rattle.cf_index.specs.Ranks.{first_rank, rank_of};
 ghost use Rattle.cf_run.specs.Sweeps.{IsSweeping, PicksFrom, PicksNext, SweepsTo, rule_at, silent};
 
@@ -16,7 +18,7 @@ use cf_bind::Move;
 use cf_core::Core;
 use cf_index::{
     ClimbKind, EmitKind, ExecuteKind, FallKind, LaunchKind, MeetKind, OnceKind, Rank, SendKind,
-    StageKind, climbs_left,
+    StageKind, climbs_left, falls_bar_no_launch, results_at_rest,
 };
 use cf_report::Tally;
 use cf_sched::Pace;
@@ -200,6 +202,80 @@ fn sweep_climbs(
     }
 }
 
+/// Makes the Falls from these stages, of which there is one, and those from the stages above that are allowed after them. Each is the
+/// rule's next pick, and none can bar a Launch.
+#[inline(always)]
+fn make_falls(
+    core: &mut Core,
+    from: SweepPlace,
+    left: u32,
+    pace: &Pace,
+    limit: u64,
+    tally: &mut Tally,
+) -> SweepPlace
+    requires ready { IsSweeping limit (rule_at core.old (Some from.last) pace.now tally.old) }
+    requires picked { PicksFrom pace.now core.old (Some from.last) from.rank from_fall }
+    requires left { AreLeft core.old.plan core.old.state from.rank mv.Fall left }
+    requires some { left ≢ 0 }
+    requires quiet { BarNoLaunch core.old.plan core.old.state }
+    ensures swept { SweepsTo limit silent (rule_at core.old (Some from.last) pace.now tally.old)
+        (rule_at core.new (Some result.last) pace.now tally.new) }
+    ensures ready { IsSweeping limit (rule_at core.new (Some result.last) pace.now tally.new) }
+    ensures picked { PicksFrom pace.now core.new (Some result.last) result.rank from_meet }
+{
+    let (_from, _pace, _layout) = (from, pace, core.layout());
+    let resting = results_at_rest(core);
+    let fallen = core.fall_on(left, resting);
+    tally.moves += fallen.count as u64;
+    place_after(Move::Fall(fallen.last))
+}
+
+/// Makes the Falls that the rule picks one after another, each by itself.
+// It stays a call, since it is rare: a result is right above a stage from which an operation can be launched.
+#[inline(never)]
+fn sweep_falls_singly(
+    core: &mut Core,
+    from: SweepPlace,
+    pace: &Pace,
+    limit: u64,
+    tally: &mut Tally,
+) -> SweepPlace
+    requires ready { IsSweeping limit (rule_at core.old (Some from.last) pace.now tally.old) }
+    requires picked { PicksFrom pace.now core.old (Some from.last) from.rank from_fall }
+    ensures swept { SweepsTo limit silent (rule_at core.old (Some from.last) pace.now tally.old)
+        (rule_at core.new (Some result.last) pace.now tally.new) }
+    ensures ready { IsSweeping limit (rule_at core.new (Some result.last) pace.now tally.new) }
+    ensures picked { PicksFrom pace.now core.new (Some result.last) result.rank from_meet }
+{
+    sweep_kind::<FallKind>(core, from, pace, limit, tally)
+}
+
+/// Makes the Falls that the rule picks one after another.
+#[inline(always)]
+fn sweep_falls(
+    core: &mut Core,
+    from: SweepPlace,
+    pace: &Pace,
+    limit: u64,
+    tally: &mut Tally,
+) -> SweepPlace
+    requires ready { IsSweeping limit (rule_at core.old (Some from.last) pace.now tally.old) }
+    requires picked { PicksFrom pace.now core.old (Some from.last) from.rank from_fall }
+    ensures swept { SweepsTo limit silent (rule_at core.old (Some from.last) pace.now tally.old)
+        (rule_at core.new (Some result.last) pace.now tally.new) }
+    ensures ready { IsSweeping limit (rule_at core.new (Some result.last) pace.now tally.new) }
+    ensures picked { PicksFrom pace.now core.new (Some result.last) result.rank from_meet }
+{
+    let left = FallKind::left(core, from.rank);
+    if left == 0 {
+        from
+    } else if falls_bar_no_launch(core) {
+        make_falls(core, from, left, pace, limit, tally)
+    } else {
+        sweep_falls_singly(core, from, pace, limit, tally)
+    }
+}
+
 /// Makes the move of the kind, which the rule picks, and answers where the sweep is then.
 #[inline(always)]
 fn make_only<T: OnceKind>(
@@ -269,7 +345,7 @@ pub(crate) fn sweep_stages(
     };
     let emitted = sweep_once::<EmitKind>(core, from, pace, limit, tally);
     let climbed = sweep_climbs(core, emitted, pace, limit, tally);
-    let fallen = sweep_kind::<FallKind>(core, climbed, pace, limit, tally);
+    let fallen = sweep_falls(core, climbed, pace, limit, tally);
     let met = sweep_kind::<MeetKind>(core, fallen, pace, limit, tally);
     let executed = sweep_kind::<ExecuteKind>(core, met, pace, limit, tally);
     let sent = sweep_kind::<SendKind>(core, executed, pace, limit, tally);
