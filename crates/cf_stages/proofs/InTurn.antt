@@ -1,10 +1,12 @@
 -- Results that fall one after another: what one Fall changes for those at the stages above.
-use Rattle.std.proofs.Common.{◌≡◌, ◌≢◌, ◌∙◌, ℕ, zero, suc, ◌+◌, ◌-◌, ◌^◌, ◌<◌, ◌≤◌, List, [], ◌∷◌, Option, Some, None, Bool, true, false, IsTrue, length, refl, sym, ap, subst, arith}
+use Rattle.std.proofs.Common.{◌≡◌, ◌≢◌, ◌∙◌, ℕ, zero, suc, ◌+◌, ◌-◌, ◌*◌, ◌%◌, ◌^◌, ◌<◌, ◌≤◌, List, [], ◌∷◌, Option, Some, None, Bool, true, false, IsTrue, length, max, min, refl, sym, ap, subst, arith}
 use Rattle.std.specs.Prelude.{◌&&◌, ◌||◌, nat_eq, nat_lt, not}
-use Rattle.std.specs.Int.{bit_at, trailing_zeros, w32}
+use Rattle.std.specs.Int.{bit_at, bit_not, trailing_zeros, w32}
+use Rattle.std.specs.Int.RustNames.{bit_and, bit_or}
+use Rattle.std.proofs.Math.Pow.{pow-lt}
 use Rattle.std.proofs.Math.Bool.{and-true, and-false}
 use Rattle.std.proofs.lemmas.Bool.Decides.{nat_tests}
-use Rattle.std.proofs.lemmas.Nat.Bits.{bit_at-trailing_zeros, bit_at_above}
+use Rattle.std.proofs.lemmas.Nat.Bits.{bit_at-lt, bit_at-pow_other, bit_at-pow_same, bit_at-trailing_zeros, bit_at_above, bit_at_and, bit_at_or}
 use Rattle.cf_bind.specs.declared.cell.Cell.{Cell}
 use Rattle.cf_bind.specs.declared.packet.Packet.{Packet}
 use Rattle.cf_layout.specs.Words.{has_bit}
@@ -16,7 +18,7 @@ use Rattle.cf_semantics.specs.state.State.{cell_at, put_cell}
 use Rattle.cf_stages.specs.Changes.{can_fall, cells_fallen, falls, with_new_packet}
 use Rattle.cf_stages.specs.Falling.{AreFalls, AreResting, AreSomeFalls, FallInTurn, FallsOn, IsNextFall, all_fallen, last_of, rests}
 use Rattle.cf_stages.specs.Words.{with_bit}
-use Rattle.cf_stages.proofs.Bits.{bit-other, bit-same, with_bit-lt}
+use Rattle.cf_stages.proofs.Bits.{bit-other, bit-same, one-bit, with_bit-lt}
 use Rattle.cf_stages.proofs.Neighbours.{falls-within}
 use Rattle.cf_stages.proofs.Parts.{cell-put, cell-put-other, stage-high, stage-low}
 
@@ -66,64 +68,60 @@ without_bit w j k low small = by (nat_eq k j) (nat_lt k 32) refl refl
         let high : 32 ≤ k = grind (arith, nat_tests) in
         high_bit (with_bit w j false) k (with_bit-lt w j false low small) high ∙ sym (rw (high_bit w k small high) refl)
 
--- and with another
-with_other : (w j k : ℕ) → j < 32 → w < 2 ^ 32 → has_bit (with_bit w j true) k ≡ (has_bit w k || nat_eq k j)
-with_other w j k low small = by (nat_eq k j) (nat_lt k 32) refl refl
+-- the bits that both words have, and those that either has
+and_bit : (a b : ℕ) → a < 2 → b < 2 → nat_eq (min a b) 1 ≡ (nat_eq a 1 && nat_eq b 1)
+and_bit a b h g = grind (arith, nat_tests)
+
+of_both : (w v k : ℕ) → has_bit (bit_and w v) k ≡ (has_bit w k && has_bit v k)
+unfolding has_bit
+of_both w v k = ap (λ (b : ℕ). nat_eq b 1) (bit_at_and w v k) ∙ and_bit (bit_at w k) (bit_at v k) (bit_at-lt w k) (bit_at-lt v k)
+
+or_bit : (a b : ℕ) → a < 2 → b < 2 → nat_eq (max a b) 1 ≡ (nat_eq a 1 || nat_eq b 1)
+or_bit a b h g = grind (arith, nat_tests)
+
+of_either : (w v k : ℕ) → has_bit (bit_or w v) k ≡ (has_bit w k || has_bit v k)
+unfolding has_bit
+of_either w v k = ap (λ (b : ℕ). nat_eq b 1) (bit_at_or w v k) ∙ or_bit (bit_at w k) (bit_at v k) (bit_at-lt w k) (bit_at-lt v k)
+
+-- one bit goes up by one place
+single : (i k : ℕ) → has_bit (2 ^ i) k ≡ nat_eq k i
+unfolding has_bit
+single i k = by (nat_eq k i) refl
   where
-    either : (b : Bool) → true ≡ (b || true)
-    either true = refl
-    either false = refl
+    by : (here : Bool) → nat_eq k i ≡ here → has_bit (2 ^ i) k ≡ here
+    by true e = let at : k ≡ i = grind (arith, nat_tests) in rw (at, bit_at-pow_same i) refl
+    by false e = let off : k ≢ i = grind (arith, nat_tests) in rw (bit_at-pow_other i k off) refl
 
-    alone : (b : Bool) → b ≡ (b || false)
-    alone true = refl
-    alone false = refl
-
-    by : (here below : Bool) → nat_eq k j ≡ here → nat_lt k 32 ≡ below → has_bit (with_bit w j true) k ≡ (has_bit w k || here)
-    by true below e f =
-        let at : k ≡ j = grind (arith, nat_tests) in
-        rw at (bit-same w j true low) ∙ either (has_bit w k)
-    by false true e f =
-        let off : k ≢ j = grind (arith, nat_tests) in
-        bit-other w j k true low (grind (arith, nat_tests)) off ∙ alone (has_bit w k)
-    by false false e f =
-        let high : 32 ≤ k = grind (arith, nat_tests) in
-        high_bit (with_bit w j true) k (with_bit-lt w j true low small) high ∙ sym (rw (high_bit w k small high) refl)
+raised : (v i k : ℕ) → 0 < i → i ≤ 32 → v < 2 ^ 32 → (has_bit (2 ^ (i - 1) * 2 % 2 ^ 32) k && has_bit v k) ≡ (nat_eq k i && has_bit v k)
+raised v i k some low small = by (nat_lt i 32) refl
+  where
+    by : (below : Bool) → nat_lt i 32 ≡ below → (has_bit (2 ^ (i - 1) * 2 % 2 ^ 32) k && has_bit v k) ≡ (nat_eq k i && has_bit v k)
+    by true e =
+        let less : i < 32 = grind (arith, nat_tests) in
+        let small : 2 ^ i < 2 ^ 32 = pow-lt less in
+        let z : suc (i - 1) ≡ i = omega (arith, some) in
+        let y : 2 ^ (i - 1) * 2 ≡ 2 ^ i = subst (λ (n : ℕ). 2 ^ (i - 1) * 2 ≡ 2 ^ n) z (omega arith) in
+        let x : 2 ^ (i - 1) * 2 % 2 ^ 32 ≡ 2 ^ i = omega (arith, small, y) in
+        ap (λ (w : ℕ). has_bit w k && has_bit v k) x ∙ ap (λ (b : Bool). b && has_bit v k) (single i k)
+    by false e =
+        let top : i ≡ 32 = let high : 32 ≤ i = grind (arith, nat_tests) in omega (arith, low, high) in
+        rw top (none (nat_eq k 32) refl)
+      where
+        none : (here : Bool) → nat_eq k 32 ≡ here → (has_bit (2 ^ (32 - 1) * 2 % 2 ^ 32) k && has_bit v k) ≡ (here && has_bit v k)
+        none true f = let at : k ≡ 32 = grind (arith, nat_tests) in rw (at, high_bit v 32 small (omega arith)) (and-false _)
+        none false f = ap (λ (b : Bool). b && has_bit v k) (no_bits k)
 
 abbrev moves_up : (w v i k : ℕ) → Bool
 moves_up w v i k = (has_bit w k && not (nat_eq k (i - 1))) || (nat_eq k i && has_bit v k)
 
-pub moved-then : (w v i k : ℕ) → 0 < i → i < 32 → w < 2 ^ 32 → has_bit v (i + 1 - 1) ≡ true →
-    has_bit (with_bit (with_bit w (i - 1) false) (i + 1 - 1) true) k ≡ moves_up w v i k
-moved-then w v i k some low small is =
-    let z : i + 1 - 1 ≡ i = omega arith in
-    let less = with_bit-lt w (i - 1) false (omega arith) small in
-    rw (z, with_other (with_bit w (i - 1) false) i k low less, without_bit w (i - 1) k (omega arith) small)
-    (by (nat_eq k i) (has_bit w k && not (nat_eq k (i - 1))) refl)
-  where
-    by : (here b : Bool) → nat_eq k i ≡ here → (b || here) ≡ (b || (here && has_bit v k))
-    by true b e =
-        let at : k ≡ i + 1 - 1 = grind (arith, nat_tests) in
-        rw (at, is) refl
-    by false b e = refl
-
-pub moved-else : (w v i k : ℕ) → 0 < i → i ≤ 32 → w < 2 ^ 32 → v < 2 ^ 32 → (i < 32 → has_bit v (i + 1 - 1) ≡ false) →
-    has_bit (with_bit w (i - 1) false) k ≡ moves_up w v i k
-moved-else w v i k some low small less none =
-    rw (without_bit w (i - 1) k (omega arith) small) (by (nat_eq k i) (has_bit w k && not (nat_eq k (i - 1))) refl)
-  where
-    alone : (b : Bool) → b ≡ (b || false)
-    alone true = refl
-    alone false = refl
-
-    off : (below : Bool) → nat_lt i 32 ≡ below → has_bit v i ≡ false
-    off true e = let z : i + 1 - 1 ≡ i = omega arith in rw z at (none (grind (arith, nat_tests)))
-    off false e = high_bit v i less (grind (arith, nat_tests))
-
-    by : (here b : Bool) → nat_eq k i ≡ here → b ≡ (b || (here && has_bit v k))
-    by true b e =
-        let at : k ≡ i = grind (arith, nat_tests) in
-        rw (at, off (nat_lt i 32) refl) (alone b)
-    by false b e = alone b
+pub moved-bits : (w v i k : ℕ) → 0 < i → i ≤ 32 → w < 2 ^ 32 → v < 2 ^ 32 →
+    has_bit (bit_or (bit_and w (bit_not w32 (1 * 2 ^ (i - 1) % 2 ^ 32))) (bit_and (1 * 2 ^ (i - 1) % 2 ^ 32 * 2 % 2 ^ 32) v)) k ≡ moves_up w v i k
+unfolding with_bit
+moved-bits w v i k some low small less =
+    rw (one-bit (i - 1) (omega (arith, some, low)))
+    (of_either (with_bit w (i - 1) false) (bit_and (2 ^ (i - 1) * 2 % 2 ^ 32) v) k
+    ∙ ap (λ (b : Bool). b || has_bit (bit_and (2 ^ (i - 1) * 2 % 2 ^ 32) v) k) (without_bit w (i - 1) k (omega (arith, some, low)) small)
+    ∙ ap (λ (b : Bool). (has_bit w k && not (nat_eq k (i - 1))) || b) (of_both (2 ^ (i - 1) * 2 % 2 ^ 32) v k ∙ raised v i k some low less))
 
 -- One Fall --
 

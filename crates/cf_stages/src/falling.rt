@@ -7,7 +7,7 @@ ghost use Rattle.cf_stages.specs.Falling.{AreResting, AreSomeFalls, FallsOn};
 ghost use Rattle.cf_stages.specs.Parts.{AreParts, all_cells};
 
 use crate::stages::Stages;
-use crate::words::{has_bit, lowered, with_bit};
+use crate::words::{lowered, with_bit};
 use cf_bind::{Packet, Passenger};
 
 /// How many results fell, and from which stage the last of them did; both are 0 if none did.
@@ -73,12 +73,8 @@ fn moved_up(word: u32, other: u32, i: u32) -> u32
     requires within { i ≤ 32 }
     ensures { (k : ℕ) → is_bit_set result k ≡ ((is_bit_set word k && not (nat_eq k (i - 1))) || (nat_eq k i && is_bit_set other k)) }
 {
-    let rest = with_bit(word, i, false);
-    if i < 32 && has_bit(other, i + 1) {
-        with_bit(rest, i + 1, true)
-    } else {
-        rest
-    }
+    let bit = 1 << (i - 1);
+    word & !bit | bit << 1 & other
 }
 
 /// Lets the results of these stages fall from the lowest up, and after each that of the stage above, if a result rests there.
