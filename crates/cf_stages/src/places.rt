@@ -6,8 +6,9 @@ ghost use Rattle.cf_semantics.specs.state.State.{put_cell};
 ghost use Rattle.cf_stages.specs.Changes.{IsCell, changed, cells_lifted, cells_fallen, falls, has_met_at, packet_at, passenger_at, with_new_passenger};
 ghost use Rattle.cf_stages.specs.Parts.{with_place};
 
+use crate::falling::{StageWords, drop_one};
 use crate::stages::Stages;
-use crate::words::{is_there, lowered, with_bit};
+use crate::words::{is_there, with_bit};
 use cf_bind::{Cell, Packet, Passenger};
 
 /// Copies the instruction of one entry into another.
@@ -74,16 +75,20 @@ impl Stages {
 
     /// The result of the stage goes to the one below, which has none, where it has met nothing.
     #[inline(always)]
-    #[tactic(auto, using(crate::proofs::Lifted::dropping, crate::proofs::Kept::counting))]
+    #[tactic(auto, using(crate::proofs::Kept::counting))]
     pub(crate) fn drop_packet(&mut self, i: u32)
         requires { IsTrue (falls self.old i) }
         ensures stages { self.new ≡ cells_fallen self.old i }
         ensures count { length self.new ≡ length self.old }
     {
-        self.packet_mask = lowered(self.packet_mask, i);
-        self.met_mask = with_bit(self.met_mask, i, false);
-        self.packets[i as usize - 2] = self.packets[i as usize - 1];
-        self.packets[i as usize - 1] = None;
+        let words = StageWords {
+            riding: self.passenger_mask,
+            flying: self.packet_mask,
+            met: self.met_mask,
+        };
+        let words = drop_one(&self.passengers, &mut self.packets, words, i);
+        self.packet_mask = words.flying;
+        self.met_mask = words.met;
     }
 
     /// Replaces the result of the stage by what is left of it. It has met the instruction there now.
