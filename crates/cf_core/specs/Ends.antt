@@ -1,12 +1,14 @@
 -- What enters at the two ends of the pipes, and what changes beside them ("Counterflow Pipeline Processor
 -- Architecture", 1994).
-use Rattle.std.specs.Prelude.{ℕ, List, ◌++◌, Option, Some}
+use Rattle.std.specs.Prelude.{ℕ, List, ◌++◌, ◌+◌, Option, Some}
 use Rattle.cf_layout.specs.Layout.{Plan}
 use Rattle.cf_bind.specs.declared.binding.Binding.{Binding}
 use Rattle.cf_bind.specs.declared.packet.Packet.{Packet}
+use Rattle.cf_bind.specs.declared.passenger.End.{End}
 use Rattle.cf_bind.specs.declared.passenger.Passenger.{Passenger}
 use Rattle.cf_bind.specs.declared.passenger.Guess.{Guess}
 use Rattle.cf_semantics.specs.moves.Instructions.{fetched}
+use Rattle.cf_semantics.specs.state.Options.{on}
 use Rattle.cf_semantics.specs.state.State.{State}
 use Rattle.cf_semantics.specs.state.Layouts.{isa_of}
 use Rattle.cf_semantics.specs.state.Passengers.{forgets, fresh, reg_in}
@@ -36,3 +38,8 @@ taken_in plan s k = record s { fetch = turned s.fetch k; cache = keeps plan.cach
 -- the register file has the destination's value
 abbrev pub written_back : State → Option Binding → State
 written_back s destination = record s { regs = written s.regs destination }
+
+-- a live instruction with this ending and this destination has left: it ended the program, or it retired
+abbrev pub left_by : State → Option End → Option Binding → State
+left_by s ending destination =
+    on ending (record s { regs = written s.regs destination; retired = s.retired + 1 }) (λ e. record s { ending = Some e })

@@ -69,22 +69,14 @@ impl Stages {
         self.place_packet(i, Some(packet), met);
     }
 
-    /// Takes the instruction out of the highest stage.
+    /// Removes the instruction of the highest stage.
     #[inline(always)]
-    pub fn take_top(&mut self) -> Passenger
-        requires there { IsSome (passenger_at self.old (length self.old)) }
-        requires met { is_full_at self.old (length self.old) ≡ false }
-        ensures passenger { Some result ≡ passenger_at self.old (length self.old) }
+    pub fn remove_top(&mut self)
         ensures stages { self.new ≡ changed self.old (length self.old) without_passenger }
         ensures count { length self.new ≡ length self.old }
     {
         let top = self.count();
-        let leaving = *self.passenger(top);
         self.place_passenger(top, None);
-        match leaving {
-            Some(passenger) => passenger,
-            None => unreachable!(),
-        }
     }
 
     /// Takes the result out of the lowest stage.

@@ -4,10 +4,9 @@ ghost use Rattle.std.specs.Prelude.{◌≡◌, IfSome, ◌+◌, ◌<◌, ◌^◌
 ghost use Rattle.cf_bind.specs.declared.moves.Move.TheVariants as mv;
 ghost use Rattle.cf_semantics.specs.moves.Bars.{row_bar};
 ghost use Rattle.cf_semantics.specs.moves.Events.{IsEvent};
-ghost use Rattle.cf_semantics.specs.moves.Moves.{left_live};
 ghost use Rattle.cf_semantics.specs.state.Options.{is_some};
 ghost use Rattle.cf_passengers.specs.Facts.{IsBinding};
-ghost use Rattle.cf_core.specs.Ends.{written_back};
+ghost use Rattle.cf_core.specs.Ends.{left_by, written_back};
 ghost use Rattle.cf_core.specs.Marks.{row_allows};
 ghost use Rattle.cf_core.specs.Masks.{is_allowed};
 ghost use Rattle.cf_core.specs.Processors.{IsProcessor, in_state, after_move};
@@ -16,7 +15,7 @@ use crate::counterflow::Core;
 use crate::processor::Processor;
 use crate::riding::{is_out, is_undone};
 use crate::rows::first_of;
-use cf_bind::{Bar, Binding, Passenger};
+use cf_bind::{Bar, Binding, End};
 use cf_passengers::{leaving, value_in};
 use cf_semantics::Event;
 
@@ -71,25 +70,59 @@ impl Processor {
         }
     }
 
-    /// A live instruction that has left ends the program, or retires.
+    /// A live instruction with this ending and this destination, which has left, ends the program, or retires.
     #[inline(always)]
-    fn retire(&mut self, passenger: &Passenger)
-        requires destination { IfSome passenger.now.dst IsBinding }
+    fn retire(&mut self, ending: Option<End>, destination: Option<Binding>)
+        requires destination { IfSome destination IsBinding }
         requires count { self.old.state.retired + 1 < 2 ^ 64 }
-        ensures { self.new ≡ in_state self.old (left_live self.old.state passenger.now) }
+        ensures { self.new ≡ in_state self.old (left_by self.old.state ending destination) }
     {
-        match passenger.ending {
+        match ending {
             Some(end) => self.ending = Some(end),
             None => {
-                self.write_back(passenger.dst);
+                self.write_back(destination);
                 self.retired += 1;
             }
         }
     }
 
-    /// The instruction of the highest stage leaves. Returns what this shows to the outside.
+    /// What it shows to the outside that the instruction of the highest stage leaves.
+    #[inline(always)]
+    fn leaving_top(&self) -> Event
+        requires facts { IsProcessor self.now.plan self.now.state }
+        requires allowed { row_bar self.now.plan self.now.state mv.Leave ≡ None }
+        ensures { IsEvent self.now.plan self.now.state mv.Leave result }
+    {
+        let top = self.stages.count();
+        match self.stages.passenger(top) {
+            Some(passenger) => leaving(passenger),
+            None => unreachable!(),
+        }
+    }
+
+    /// The instruction of the highest stage leaves. Only what the registers and the end of the program need of it is copied.
     #[inline(never)]
     #[tactic(auto, unfolding(cf_semantics::specs::moves::Moves::moved))]
+    fn leave_top(&mut self)
+        requires facts { IsProcessor self.old.plan self.old.state }
+        requires allowed { row_bar self.old.plan self.old.state mv.Leave ≡ None }
+        requires count { self.old.state.retired + 1 < 2 ^ 64 }
+        ensures { self.new ≡ after_move self.old mv.Leave }
+    {
+        let top = self.stages.count();
+        let Some(passenger) = self.stages.passenger(top) else {
+            unreachable!()
+        };
+        let (dead, ending, destination) = (passenger.dead, passenger.ending, passenger.dst);
+        self.stages.remove_top();
+        if !dead {
+            self.retire(ending, destination);
+        }
+    }
+
+    /// The instruction of the highest stage leaves. Returns what this shows to the outside.
+    // The event is made where it is asked for: a caller that shows nothing does not encode the instruction.
+    #[inline(always)]
     pub(crate) fn leave(&mut self) -> Event
         requires facts { IsProcessor self.old.plan self.old.state }
         requires allowed { row_bar self.old.plan self.old.state mv.Leave ≡ None }
@@ -97,11 +130,9 @@ impl Processor {
         ensures processor { self.new ≡ after_move self.old mv.Leave }
         ensures event { IsEvent self.old.plan self.old.state mv.Leave result }
     {
-        let passenger = self.stages.take_top();
-        if !passenger.dead {
-            self.retire(&passenger);
-        }
-        leaving(&passenger)
+        let event = self.leaving_top();
+        self.leave_top();
+        event
     }
 }
 
