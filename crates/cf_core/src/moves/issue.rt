@@ -20,7 +20,9 @@ use crate::issuing::Issuable;
 use crate::processor::Processor;
 use crate::rows::first_of;
 use cf_bind::{Bar, Binding, Fetch, Guess, Passenger};
-use cf_passengers::{RequestedSources, blank, fetch_and_issue, goto, may_guess, requests};
+use cf_passengers::{
+    RequestedSources, blank, fetch_and_issue, goto, issue_at_once, may_guess, requests,
+};
 
 /// Fetch at the address; if there is none, fetch waits.
 #[inline(always)]
@@ -108,7 +110,7 @@ impl Processor {
     {
         self.stages.put_passenger(blank(pc, guess));
         let passenger = self.stages.passenger_mut(1);
-        fetch_and_issue(passenger, &self.ends, self.isa, &self.memory);
+        issue_at_once(passenger, &self.ends, self.isa, &self.memory);
     }
 
     /// A new instruction enters the lowest stage, and fetch goes on by the guess.

@@ -17,10 +17,10 @@ returns-clause-state c =
     let p : Processor = the_view c.self.inside in
     let free = subst (λ (q : Processor). row_bar q.plan q.state (Issue c.args.guess) ≡ None) (sym c.self.view_is) c.requires in
     let is = issued-there p.plan p.state c.args.guess c.args.pc c.self.inside.isa c.put_passenger.new.self c.blank.result c.passenger_mut-passenger.result.now
-    c.fetch_and_issue.new.p free c.put_passenger.ensures.stages c.blank.ensures c.passenger_mut-passenger.ensures.value c.self.invariant.1.1
-    c.fetch_and_issue.ensures.passenger in
+    c.issue_at_once.new.p free c.put_passenger.ensures.stages c.blank.ensures c.passenger_mut-passenger.ensures.value c.self.invariant.1.1
+    c.issue_at_once.ensures.passenger in
     ap (λ (cells : List Cell). in_state p (record p.state { cells = cells })) (entered-cells p.plan p.state c.args.guess c.args.pc c.put_passenger.new.self
-    c.blank.result c.fetch_and_issue.new.p c.put_passenger.ensures.stages is)
+    c.blank.result c.issue_at_once.new.p c.put_passenger.ensures.stages is)
     ∙ ap (λ (q : Processor). in_state q (entered q.plan q.state c.args.pc c.args.guess)) c.self.view_is
 
 pub returns-clause-facts : goal.returns-clause-facts
@@ -28,8 +28,8 @@ returns-clause-facts c =
     let p : Processor = the_view c.self.inside in
     let free = subst (λ (q : Processor). row_bar q.plan q.state (Issue c.args.guess) ≡ None) (sym c.self.view_is) c.requires in
     let is = issued-there p.plan p.state c.args.guess c.args.pc c.self.inside.isa c.put_passenger.new.self c.blank.result c.passenger_mut-passenger.result.now
-    c.fetch_and_issue.new.p free c.put_passenger.ensures.stages c.blank.ensures c.passenger_mut-passenger.ensures.value c.self.invariant.1.1
-    c.fetch_and_issue.ensures.passenger in
-    let set = subst (λ (i : Isa). IsPassenger i c.fetch_and_issue.new.p) c.self.invariant.1.1 c.fetch_and_issue.ensures.facts in
+    c.issue_at_once.new.p free c.put_passenger.ensures.stages c.blank.ensures c.passenger_mut-passenger.ensures.value c.self.invariant.1.1
+    c.issue_at_once.ensures.passenger in
+    let set = subst (λ (i : Isa). IsPassenger i c.issue_at_once.new.p) c.self.invariant.1.1 c.issue_at_once.ensures.facts in
     let whole = subst (IsPassenger (isa_of p.plan)) is set in
     subst (λ (q : Processor). IsPassenger (isa_of q.plan) (issued_at q.plan q.state c.args.pc c.args.guess)) c.self.view_is whole
