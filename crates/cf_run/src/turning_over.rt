@@ -4,7 +4,7 @@
 
 ghost use Rattle.std.specs.Prelude.{◌≡◌, ◌<◌, ◌≤◌, ◌+◌, IfSome, Some};
 ghost use Rattle.cf_index.specs.Order.{kind_place};
-ghost use Rattle.cf_index.specs.PickedFrom.{IsLast, from_access, from_emit, from_leave, outward_on};
+ghost use Rattle.cf_index.specs.PickedFrom.{IsLast, from_access, from_emit, from_exit, from_leave, outward_on};
 ghost use Rattle.cf_index.specs.Ranks.{first_rank};
 ghost use Rattle.cf_run.specs.Sweeps.{IsSweeping, PicksFrom, PicksNext, SweepsTo, rule_at, silent};
 
@@ -12,7 +12,7 @@ use crate::finished::over;
 use crate::sweep::{SweepPlace, make_picked, make_within, sweep_kind, sweep_once, sweep_stages};
 use cf_bind::Move;
 use cf_core::Core;
-use cf_index::{AccessKind, Candidates, ExitKind, LeaveKind, Rank, RecoverKind};
+use cf_index::{AccessKind, Candidates, ExitKind, LeaveKind, OnceKind, Rank, RecoverKind};
 use cf_report::Tally;
 use cf_sched::Pace;
 
@@ -172,6 +172,66 @@ fn pass_sidings(
     sweep_sidings(core, from, pace, limit, tally)
 }
 
+/// Makes Leave, if the rule picks it, and asks whether the run is over then: no other move of a round ends a run.
+#[inline(always)]
+fn take_leave(
+    core: &mut Core,
+    from: SweepPlace,
+    pace: &mut Pace,
+    limit: u64,
+    tally: &mut Tally,
+) -> PartEnd
+    requires ready { IsSweeping limit (rule_at core.old (Some from.last) pace.old tally.old) }
+    requires picked { PicksFrom pace.old core.old (Some from.last) from.rank from_leave }
+    ensures swept { SweepsTo limit silent (rule_at core.old (Some from.last) pace.old tally.old)
+        (rule_at core.new (Some result.last) pace.new tally.new) }
+    ensures ready { IfSome result.rank (λ rank. IsSweeping limit (rule_at core.new (Some result.last) pace.new tally.new)) }
+    ensures picked { IfSome result.rank (λ rank. PicksFrom pace.new core.new (Some result.last) rank from_exit) }
+{
+    if !LeaveKind::is_left(core, from.rank) {
+        return PartEnd {
+            last: from.last,
+            rank: Some(from.rank),
+        };
+    }
+    let mv = LeaveKind::only();
+    make_picked(core, from.last, mv, pace, limit, tally);
+    let rank = if over(core, limit).is_some() {
+        None
+    } else {
+        Some(Rank::of(mv))
+    };
+    PartEnd { last: mv, rank }
+}
+
+/// Makes Exit, if the rule picks it. The next pick is looked for among all moves if it is Serve.
+#[inline(always)]
+fn take_exit(
+    core: &mut Core,
+    from: SweepPlace,
+    pace: &mut Pace,
+    limit: u64,
+    tally: &mut Tally,
+) -> PartEnd
+    requires ready { IsSweeping limit (rule_at core.old (Some from.last) pace.old tally.old) }
+    requires picked { PicksFrom pace.old core.old (Some from.last) from.rank from_exit }
+    ensures swept { SweepsTo limit silent (rule_at core.old (Some from.last) pace.old tally.old)
+        (rule_at core.new (Some result.last) pace.new tally.new) }
+    ensures ready { IsSweeping limit (rule_at core.new (Some result.last) pace.new tally.new) }
+    ensures over { IfSome result.rank (λ rank. IsLast core.new.plan core.new.state (Some result.last)) }
+{
+    let exited = sweep_once::<ExitKind>(core, from, pace, limit, tally);
+    let rank = if Candidates::may_serve(core, exited.rank) {
+        None
+    } else {
+        Some(exited.rank)
+    };
+    PartEnd {
+        last: exited.last,
+        rank,
+    }
+}
+
 /// Makes Leave and Exit, if the rule picks them, until the run is over or the rule picks Serve.
 #[inline(always)]
 fn sweep_leaving(
@@ -188,22 +248,16 @@ fn sweep_leaving(
     ensures ready { IfSome result.rank (λ rank. IsSweeping limit (rule_at core.new (Some result.last) pace.new tally.new)) }
     ensures over { IfSome result.rank (λ rank. IsLast core.new.plan core.new.state (Some result.last)) }
 {
-    let left = sweep_once::<LeaveKind>(core, from, pace, limit, tally);
-    if over(core, limit).is_some() {
-        return PartEnd {
-            last: left.last,
-            rank: None,
-        };
-    }
-    let exited = sweep_once::<ExitKind>(core, left, pace, limit, tally);
-    let rank = if Candidates::may_serve(core, exited.rank) {
-        None
-    } else {
-        Some(exited.rank)
-    };
-    PartEnd {
-        last: exited.last,
-        rank,
+    let left = take_leave(core, from, pace, limit, tally);
+    match left.rank {
+        Some(rank) => {
+            let place = SweepPlace {
+                last: left.last,
+                rank,
+            };
+            take_exit(core, place, pace, limit, tally)
+        }
+        None => left,
     }
 }
 
