@@ -1,5 +1,5 @@
 -- The move that finishes earliest is an Issue or the first of the other moves.
-use Rattle.std.proofs.Common.{◌≡◌, ◌∙◌, sym, refl, ap, ℕ, zero, suc, ◌+◌, ◌-◌, ◌<◌, ◌≤◌, List, [], ◌∷◌, ◌++◌, All, length, get_or, Bool, true, false, Some, None, arith}
+use Rattle.std.proofs.Common.{◌≡◌, ◌∙◌, sym, refl, ap, subst, ℕ, zero, suc, ◌+◌, ◌-◌, ◌<◌, ◌≤◌, List, [], ◌∷◌, ◌++◌, All, length, get_or, Bool, true, false, Some, None, arith}
 use Rattle.std.specs.Prelude.{slice_get}
 use Rattle.std.proofs.lemmas.List.Elements.{All-filter}
 use Rattle.std.proofs.lemmas.Option.{get_or_from_slice_get, slice_get_within}
@@ -50,6 +50,10 @@ pub none_sooner : (c : ClockedState) (r : GuessRule) (plan : Plan) (s : State) (
     AreLater c (unheld_issues held r plan s) by
 none_sooner c r plan s true by time e less = λ k d below. absurd (omega arith)
 none_sooner c r plan s false by time e less = λ k d below. let same = each_issue c r plan s k d below in omega (arith, same, e, less)
+
+pub none_allowed : (c : ClockedState) (r : GuessRule) (plan : Plan) (s : State) (held : Bool) (by : ℕ) → unheld_issues held r plan s ≡ [] →
+    AreLater c (unheld_issues held r plan s) by
+none_allowed c r plan s held by none = subst (λ (xs : List Move). AreLater c xs by) (sym none) (λ k d below. absurd (omega arith))
 
 pub none_there : (c : ClockedState) (r : GuessRule) (plan : Plan) (s : State) (held : Bool) (by : ℕ) → None ≡ slice_get (kept_issues r plan s) 0 →
     AreLater c (unheld_issues held r plan s) by

@@ -1,6 +1,7 @@
 //! The move that finishes earliest, found without filling in the candidates.
 
-ghost use Rattle.std.specs.Prelude.{◌≡◌, IfSome, None, slice_get};
+ghost use Rattle.std.specs.Prelude.{◌≡◌, Bool, IfSome, None, [], slice_get, true};
+ghost use Rattle.run_options.specs.declared.guess_rule.GuessRule.{GuessRule as Rule};
 ghost use Rattle.cf_index.specs.Allowed.{unheld_issues, withheld};
 ghost use Rattle.cf_index.specs.GuessRules.{guided};
 ghost use Rattle.cf_timed.specs.Clocks.{clocked};
@@ -10,9 +11,10 @@ ghost use Rattle.cf_timed.specs.Soonest.{AreLater, IsIssueBy, IsSoonest};
 use crate::clock::Clock;
 use crate::due_moves::DueMoves;
 use crate::looking::Looking;
-use cf_bind::{Guess, Move};
+use cf_bind::{Fetch, Guess, Move};
 use cf_core::Core;
 use cf_index::Candidates;
+use cf_stages::has_bit;
 use run_options::GuessRule;
 
 /// A move, and when it finishes if it is made now.
@@ -22,10 +24,24 @@ pub(crate) struct Due {
     pub(crate) time: u64,
 }
 
+/// Whether no Issue is allowed because the lowest stage has an instruction, or because fetch waits. Nothing is decoded,
+/// so any other reason is not seen.
+#[inline(always)]
+fn issues_none(core: &Core) -> bool
+    ensures { (rule : Rule) (held : Bool) → result ≡ true → unheld_issues held rule core.now.plan core.now.state ≡ [] }
+{
+    let _layout = core.layout();
+    let masks = core.masks();
+    match core.fetch() {
+        Fetch::Running(_) => has_bit(masks.passengers, 1),
+        Fetch::Waiting => true,
+    }
+}
+
 impl Clock {
     /// The first Issue that is allowed, kept by the guess rule and not held back, if it finishes by this time. The
     /// search is made only if an Issue would finish by then, since it has to decode an instruction; all Issues use the
-    /// same sites.
+    /// same sites. No time is computed if the lowest stage has an instruction, or if fetch waits.
     #[inline(always)]
     #[tactic(auto, using(crate::proofs::Sooner::issue_due))]
     fn issue_by(&self, core: &Core, rule: GuessRule, held: bool, by: u64) -> Option<Due>
@@ -33,6 +49,9 @@ impl Clock {
         ensures none { result ≡ None → AreLater (clocked self.now core.now.state) (unheld_issues held rule core.now.plan core.now.state) by }
     {
         if held {
+            return None;
+        }
+        if issues_none(core) {
             return None;
         }
         let time = self.capped(core, Move::Issue(Guess::Next));

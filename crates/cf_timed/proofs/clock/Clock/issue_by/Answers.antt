@@ -1,10 +1,15 @@
 use Rattle.cf_timed.specs.Clocks.{clocked}
-use Rattle.cf_timed.proofs.Sooner.{issue_there, none_held, none_sooner}
+use Rattle.cf_timed.proofs.Sooner.{issue_there, none_allowed, none_held, none_sooner}
 use Rattle.cf_timed.proofs.clock.Clock.issue_by.Goals as goal
 
 pub returns-then-held-clause-none : goal.returns-then-held-clause-none
 returns-then-held-clause-none c = λ none. none_held (clocked c.args.self.now c.args.core.now.state) c.args.rule c.args.core.now.plan c.args.core.now.state
     c.args.held c.args.by c.if-held.true
+
+pub returns-then-issues_none-clause-none : goal.returns-then-issues_none-clause-none
+returns-then-issues_none-clause-none c = λ none.
+    none_allowed (clocked c.args.self.now c.args.core.now.state) c.args.rule c.args.core.now.plan c.args.core.now.state c.args.held c.args.by
+    (c.issues_none.ensures c.args.rule c.args.held c.if-issues_none.true)
 
 pub returns-then-by-time-clause-none : goal.returns-then-by-time-clause-none
 returns-then-by-time-clause-none c = λ none. none_sooner (clocked c.args.self.now c.args.core.now.state) c.args.rule c.args.core.now.plan c.args.core.now.state
