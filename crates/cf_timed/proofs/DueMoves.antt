@@ -5,6 +5,7 @@ use Rattle.std.specs.Prelude.{◌&&◌, filter, not, slice_get}
 use Rattle.std.specs.List.{AllByRecursion}
 use Rattle.std.proofs.lemmas.Bool.Decides.{nat_tests}
 use Rattle.std.proofs.lemmas.List.Elements.{filter-append}
+use Rattle.std.proofs.lemmas.Option.{slice_get_within}
 use Rattle.cf_layout.specs.Layout.{Plan}
 use Rattle.cf_layout.specs.Accepted.{IsAccepted}
 use Rattle.cf_bind.specs.declared.moves.Move.{Move}
@@ -23,6 +24,8 @@ use Rattle.cf_timed.specs.Delays.{AreDelays, span_of}
 use Rattle.cf_timed.specs.DelayedRuns.{class_of_move}
 use Rattle.cf_timed.specs.Drawing.{next_word, stream_of}
 use Rattle.cf_timed.specs.DueMoves.{AreDue, KeptMoves, finishing, is_serve, kept_after, none_kept, still_due, without_first}
+use Rattle.cf_timed.specs.Soonest.{IsFirstDue}
+use Rattle.cf_timed.specs.declared.soonest.Due.{Due}
 use Rattle.cf_timed.proofs.Delaying.{is_span, ticks_some}
 use Rattle.cf_timed.proofs.Leasts.{IsFirst, after_one}
 use Rattle.cf_timed.proofs.Room.{all_moves_kept, all_passed}
@@ -195,6 +198,7 @@ due_more plan m clock mv kept acc made spans below due =
           (all_from (AreKept plan) (λ x. nat_lt (begin_time (stamped clock mv t) x) t ≡ (nat_lt (begin_time clock x) t && not (met x))) kept.moves
           still due.sites)));
       sites = due.sites;
+      below = λ some. below;
     }
   where
     off : (b : Bool) → false ≡ (b && false)
@@ -230,6 +234,7 @@ due_none plan c = record {
   others = finishing c 0 (allowed_others plan c.state);
   first = refl;
   sites = tt;
+  below = λ some. absurd (omega (arith, some));
 }
 
 -- what is kept after a move is right, unless the program has ended
@@ -332,12 +337,17 @@ due_skipped plan c kept mv due at past = by kept.moves refl
     same [] e = refl
     same (x ∷ xs) e = none x xs (cc)
 
+    longer : (l : List Move) → 0 < length (drop 1 l) → 0 < length l
+    longer [] some = some
+    longer (x ∷ xs) some = omega arith
+
     by : (l : List Move) → kept.moves ≡ l → AreDue plan c (without_first kept)
     by l e = record {
       least = due.least;
       others = due.others;
       first = due.first ∙ ap (λ (k : List Move). k ++ due.others) (same kept.moves at);
       sites = rest kept.moves due.sites;
+      below = λ some. due.below (longer kept.moves some);
     }
 
 -- and a first move that is due is the first of those that are
@@ -353,10 +363,20 @@ first_still clock kept mv at before = by kept.moves at
     by [] e = absurd (cc)
     by (x ∷ xs) e = one x xs (cc)
 
-pub none_still : (clock : SiteTimes) (kept : KeptMoves) → None ≡ slice_get kept.moves 0 → None ≡ slice_get (still_due clock kept) 0
+pub none_still : (clock : SiteTimes) (kept : KeptMoves) → None ≡ slice_get kept.moves 0 → still_due clock kept ≡ []
 unfolding still_due
 none_still clock kept at = by kept.moves at
   where
-    by : (l : List Move) → None ≡ slice_get l 0 → None ≡ slice_get (filter (λ y. nat_lt (begin_time clock y) kept.time) l) 0
+    by : (l : List Move) → None ≡ slice_get l 0 → filter (λ y. nat_lt (begin_time clock y) kept.time) l ≡ []
     by [] e = refl
     by (x ∷ xs) e = absurd (cc)
+
+-- it takes what is left until their time
+pub first_timed : (plan : Plan) (c : ClockedState) (kept : KeptMoves) (due : Due) → AreDue plan c kept → Some due.mv ≡ slice_get kept.moves 0 →
+    begin_time c.clock due.mv < kept.time → due.delay ≡ kept.time - begin_time c.clock due.mv → due.time ≡ kept.time → IsFirstDue c kept due
+unfolding finish_time
+first_timed plan c kept due right at before takes time =
+    let first = first_still c.clock kept due.mv at before in
+    let is = (first_due plan c kept due.mv right first).is in
+    let below = right.below (slice_get_within kept.moves 0 due.mv (sym at)) in
+    record { mv = first; delay = omega (arith, is, below, before, takes); time = time }

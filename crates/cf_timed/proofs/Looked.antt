@@ -145,7 +145,7 @@ fresh plan c kept acc spans h = by (nat_lt kept.time (2 ^ 64 - 1)) refl
 
     by : (b : Bool) → nat_lt kept.time (2 ^ 64 - 1) ≡ b → IsFresh plan c (cond b kept (record kept { moves = [] }))
     by false e = record {
-      due = record { least = h.least; others = due; first = refl; sites = tt };
+      due = record { least = h.least; others = due; first = refl; sites = tt; below = λ some. absurd (omega (arith, some)) };
       still = refl;
     }
     by true e =
@@ -160,6 +160,7 @@ fresh plan c kept acc spans h = by (nat_lt kept.time (2 ^ 64 - 1)) refl
             first = sym (ap (λ (l : List Move). l ++ drop most_kept due) (all ∙ h.moves) ∙ take-append-drop most_kept due);
             sites = subst (AllByRecursion (AreKept plan)) (sym h.moves) (all_first (AreKept plan) most_kept due
                 (all_passed (AreKept plan) (λ mv. nat_eq (capped c mv) kept.time) others (others_kept plan c.state acc)));
+            below = λ some. below;
           };
           still = all;
         }

@@ -1,6 +1,6 @@
 -- The moves that are due: of the allowed moves other than Issue, those that finish earliest, all at one time. They are
 -- kept while they are made one after another.
-use Rattle.std.specs.Prelude.{◌≡◌, ◌≤◌, ◌-◌, ◌^◌, ℕ, List, [], ◌∷◌, ◌++◌, Bool, true, false, ◌&&◌, drop, filter, nat_eq, nat_lt, take, if◌then◌else◌}
+use Rattle.std.specs.Prelude.{◌≡◌, ◌<◌, ◌≤◌, ◌-◌, ◌^◌, ℕ, List, [], ◌∷◌, ◌++◌, Bool, true, false, ◌&&◌, drop, filter, length, nat_eq, nat_lt, take, if◌then◌else◌}
 use Rattle.std.specs.List.{AllByRecursion}
 use Rattle.cf_layout.specs.Layout.{Plan}
 use Rattle.cf_bind.specs.declared.moves.Move.{Move}
@@ -32,6 +32,8 @@ pub record AreDue (plan : Plan) (c : ClockedState) (kept : KeptMoves) : Type 0 w
   pub others : List Move
   pub first : finishing c kept.time (allowed_others plan c.state) ≡ still_due c.clock kept ++ others
   pub sites : AllByRecursion (AreKept plan) kept.moves
+  -- their time is below the maximum number of 64 bits
+  pub below : 0 < length kept.moves → kept.time < 2 ^ 64 - 1
 
 -- at most this many moves are kept
 abbrev pub most_kept : ℕ

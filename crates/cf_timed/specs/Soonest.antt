@@ -2,19 +2,31 @@
 use Rattle.std.specs.Prelude.{◌≡◌, ℕ, ◌<◌, ◌≤◌, All, List, Some, slice_get}
 use Rattle.cf_bind.specs.declared.moves.Move.{Move}
 use Rattle.cf_timed.specs.declared.soonest.Due.{Due}
-use Rattle.cf_timed.specs.Clocks.{ClockedState, capped}
+use Rattle.cf_timed.specs.Clocks.{ClockedState, capped, delay_by}
+use Rattle.cf_timed.specs.DueMoves.{KeptMoves, still_due}
 use Rattle.cf_timed.specs.Earliest.{first_least}
 
--- it is the first of the moves that finish earliest, with its time
+-- how long it takes if it is made now, and when it finishes
+pub record IsTimed (c : ClockedState) (due : Due) : Type 0 where
+  pub delay : due.delay ≡ delay_by c due.mv
+  pub time : due.time ≡ capped c due.mv
+
+-- it is the first of the moves that finish earliest, with its delay and its time
 pub record IsSoonest (c : ClockedState) (moves : List Move) (due : Due) : Type 0 where
   pub mv : Some due.mv ≡ slice_get moves (first_least (capped c) moves)
-  pub time : due.time ≡ capped c due.mv
+  pub timed : IsTimed c due
 
 -- it is the first of the Issues, and finishes by this time
 pub record IsIssueBy (c : ClockedState) (issues : List Move) (by : ℕ) (due : Due) : Type 0 where
   pub mv : Some due.mv ≡ slice_get issues 0
-  pub time : due.time ≡ capped c due.mv
+  pub timed : IsTimed c due
   pub soon : due.time ≤ by
+
+-- it is the first of the kept moves that are still due, with its delay and their time
+pub record IsFirstDue (c : ClockedState) (kept : KeptMoves) (due : Due) : Type 0 where
+  pub mv : Some due.mv ≡ slice_get (still_due c.clock kept) 0
+  pub delay : due.delay ≡ delay_by c due.mv
+  pub time : due.time ≡ kept.time
 
 -- each of the moves finishes later
 abbrev pub AreLater : ClockedState → List Move → ℕ → Type 0

@@ -43,10 +43,7 @@ impl Clock {
     {
         pace.offer(core, candidates);
         let mv = self.first_least(core, candidates);
-        Due {
-            mv,
-            time: self.capped(core, mv),
-        }
+        self.timed(core, mv)
     }
 
     /// The first of the offered moves that finish earliest.

@@ -73,7 +73,7 @@ fn advance<S: Source, K: Sink>(
     let due = clock.earliest(core, candidates, &course.pace, &mut course.kept);
     let done = TimedMove {
         mv: due.mv,
-        delay: clock.delay(core, due.mv),
+        delay: due.delay,
         time: due.time,
     };
     match make_and_show(

@@ -6,7 +6,7 @@ ghost use Rattle.cf_index.specs.Allowed.{unheld_issues, withheld};
 ghost use Rattle.cf_index.specs.GuessRules.{guided};
 ghost use Rattle.cf_timed.specs.Clocks.{clocked};
 ghost use Rattle.cf_timed.specs.DueMoves.{AreDue, still_due};
-ghost use Rattle.cf_timed.specs.Soonest.{AreLater, IsIssueBy, IsSoonest};
+ghost use Rattle.cf_timed.specs.Soonest.{AreLater, IsFirstDue, IsIssueBy, IsSoonest, IsTimed};
 
 use crate::clock::Clock;
 use crate::due_moves::DueMoves;
@@ -17,10 +17,11 @@ use cf_index::Candidates;
 use cf_stages::has_bit;
 use run_options::GuessRule;
 
-/// A move, and when it finishes if it is made now.
+/// A move, how many ticks it takes if it is made now, and when it finishes then.
 #[derive(Clone, Copy)]
 pub(crate) struct Due {
     pub(crate) mv: Move,
+    pub(crate) delay: u64,
     pub(crate) time: u64,
 }
 
@@ -39,6 +40,21 @@ fn issues_none(core: &Core) -> bool
 }
 
 impl Clock {
+    /// The move, how many ticks it takes if it is made now, and when it finishes then, capped at the maximum `u64`.
+    #[inline(always)]
+    #[tactic(auto, unfolding(crate::specs::Clocks::finish_time))]
+    pub(crate) fn timed(&self, core: &Core, mv: Move) -> Due
+        ensures mv { result.mv ≡ mv }
+        ensures timed { IsTimed (clocked self.now core.now.state) result }
+    {
+        let delay = self.delay(core, mv);
+        Due {
+            mv,
+            delay,
+            time: self.reach(mv).saturating_add(delay),
+        }
+    }
+
     /// The first Issue that is allowed, kept by the guess rule and not held back, if it finishes by this time. The
     /// search is made only if an Issue would finish by then, since it has to decode an instruction; all Issues use the
     /// same sites. No time is computed if the lowest stage has an instruction, or if fetch waits.
@@ -54,12 +70,12 @@ impl Clock {
         if issues_none(core) {
             return None;
         }
-        let time = self.capped(core, Move::Issue(Guess::Next));
-        if by < time {
+        let next = self.timed(core, Move::Issue(Guess::Next));
+        if by < next.time {
             return None;
         }
         match Candidates::first_issue(core, rule) {
-            Some(mv) => Some(Due { mv, time }),
+            Some(mv) => Some(Due { mv, ..next }),
             None => None,
         }
     }
@@ -80,34 +96,45 @@ impl Clock {
 
     /// The first of the kept moves that is still due; those before it are left out.
     #[inline(always)]
-    fn first_kept(&self, core: &Core, kept: &mut DueMoves) -> Option<Move>
+    fn first_kept(&self, core: &Core, kept: &mut DueMoves) -> Option<Due>
         requires due { AreDue core.now.plan (clocked self.now core.now.state) kept.old }
         ensures due { AreDue core.now.plan (clocked self.now core.now.state) kept.new }
-        ensures first { result ≡ slice_get (still_due self.now kept.new) 0 }
+        ensures first { IfSome result (λ due. IsFirstDue (clocked self.now core.now.state) kept.new due) }
+        ensures none { result ≡ None → still_due self.now kept.new ≡ [] }
     {
         let _core = core;
         while let Some(mv) = kept.first() {
-            if self.reach(mv) < kept.time() {
-                return Some(mv);
+            let time = kept.time();
+            let begin = self.reach(mv);
+            if begin < time {
+                let delay = time - begin;
+                return Some(Due { mv, delay, time });
             }
             kept.skip();
         }
         None
     }
 
+    /// The first of the moves that a look finds.
+    #[inline(always)]
+    fn first_looked(&self, core: &Core, kept: &mut DueMoves) -> Option<Due>
+        ensures due { AreDue core.now.plan (clocked self.now core.now.state) kept.new }
+        ensures first { IfSome result (λ due. IsFirstDue (clocked self.now core.now.state) kept.new due) }
+    {
+        self.look(core, kept);
+        self.first_kept(core, kept)
+    }
+
     /// The first of the allowed moves other than Issue that finish earliest: of those that are kept, if one is still due.
     #[inline(always)]
-    fn first_due(&self, core: &Core, kept: &mut DueMoves) -> Option<Move>
+    fn first_due(&self, core: &Core, kept: &mut DueMoves) -> Option<Due>
         requires due { AreDue core.now.plan (clocked self.now core.now.state) kept.old }
         ensures due { AreDue core.now.plan (clocked self.now core.now.state) kept.new }
-        ensures first { result ≡ slice_get (still_due self.now kept.new) 0 }
+        ensures first { IfSome result (λ due. IsFirstDue (clocked self.now core.now.state) kept.new due) }
     {
         match self.first_kept(core, kept) {
-            Some(mv) => Some(mv),
-            None => {
-                self.look(core, kept);
-                kept.first()
-            }
+            Some(due) => Some(due),
+            None => self.first_looked(core, kept),
         }
     }
 
@@ -126,13 +153,9 @@ impl Clock {
         ensures soonest { IfSome result (λ due. IsSoonest (clocked self.now core.now.state) (withheld held (guided rule core.now.plan core.now.state)) due) }
     {
         let first = self.first_due(core, kept);
-        let time = kept.time();
-        match self.issue_by(core, rule, held, time) {
+        match self.issue_by(core, rule, held, kept.time()) {
             Some(due) => Some(due),
-            None => match first {
-                Some(mv) => Some(Due { mv, time }),
-                None => None,
-            },
+            None => first,
         }
     }
 }

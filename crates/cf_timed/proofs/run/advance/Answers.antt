@@ -23,11 +23,11 @@ returns-in-Ok-clause-turns g c = record {
     policy_is = refl;
     count_is = seen-count _ _ _ _ _ _ _ c.saw.ensures.value c.drained.ensures c.requires.stages;
   };
-  clock_is = c.stamp.ensures ∙ ap (λ (n : ℕ). stamped c.args.clock.now c.earliest-due.result.mv n) c.earliest-due.ensures.soonest.time;
+  clock_is = c.stamp.ensures ∙ ap (λ (n : ℕ). stamped c.args.clock.now c.earliest-due.result.mv n) c.earliest-due.ensures.soonest.timed.time;
   event_is = refl;
-  done_is = ap (λ (n : ℕ). done_at (delayed c.earliest-due.result.mv n) c.earliest-due.result.time) c.delay.ensures.delay
+  done_is = ap (λ (n : ℕ). done_at (delayed c.earliest-due.result.mv n) c.earliest-due.result.time) c.earliest-due.ensures.soonest.timed.delay
       ∙ ap (λ (n : ℕ). done_at (delayed c.earliest-due.result.mv (delay_by (clocked c.args.clock.now c.args.core.now.state) c.earliest-due.result.mv)) n)
-      c.earliest-due.ensures.soonest.time;
+      c.earliest-due.ensures.soonest.timed.time;
 }
 
 pub returns-in-Ok-clause-due : goal.returns-in-Ok-clause-due

@@ -1,4 +1,5 @@
-use Rattle.cf_timed.specs.Clocks.{clocked}
+use Rattle.std.proofs.Common.{◌∙◌, ap}
+use Rattle.cf_timed.specs.Clocks.{capped, clocked}
 use Rattle.cf_timed.proofs.Sooner.{issue_there, none_allowed, none_held, none_sooner}
 use Rattle.cf_timed.proofs.clock.Clock.issue_by.Goals as goal
 
@@ -11,12 +12,13 @@ returns-then-issues_none-clause-none c = λ none.
     none_allowed (clocked c.args.self.now c.args.core.now.state) c.args.rule c.args.core.now.plan c.args.core.now.state c.args.held c.args.by
     (c.issues_none.ensures c.args.rule c.args.held c.if-issues_none.true)
 
-pub returns-then-by-time-clause-none : goal.returns-then-by-time-clause-none
-returns-then-by-time-clause-none c = λ none. none_sooner (clocked c.args.self.now c.args.core.now.state) c.args.rule c.args.core.now.plan c.args.core.now.state
-    c.args.held c.args.by
-    c.capped-time.result c.capped-time.ensures c.if-by-time.true
+pub returns-then-by-next-clause-none : goal.returns-then-by-next-clause-none
+returns-then-by-next-clause-none c = λ none.
+    none_sooner (clocked c.args.self.now c.args.core.now.state) c.args.rule c.args.core.now.plan c.args.core.now.state c.args.held c.args.by
+    c.timed-next.result.time
+    (c.timed-next.ensures.timed.time ∙ ap (capped (clocked c.args.self.now c.args.core.now.state)) c.timed-next.ensures.mv) c.if-by-next.true
 
 pub returns-in-Some-clause-some : goal.returns-in-Some-clause-some
 returns-in-Some-clause-some c = issue_there (clocked c.args.self.now c.args.core.now.state) c.args.rule c.args.core.now.plan c.args.core.now.state c.args.held
     c.args.by
-    c.capped-time.result c.in-Some.mv c.capped-time.ensures c.if-held.false c.if-by-time.false c.in-Some.ensures
+    c.timed-next.result c.in-Some.mv c.timed-next.ensures.mv c.timed-next.ensures.timed c.if-held.false c.if-by-next.false c.in-Some.ensures
