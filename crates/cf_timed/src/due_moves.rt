@@ -72,6 +72,16 @@ impl DueMoves {
         }
     }
 
+    /// Leaves out all moves.
+    #[inline(always)]
+    fn clear(&mut self)
+        ensures { self.new ≡ none_kept }
+    {
+        self.time = 0;
+        self.next = 0;
+        self.count = 0;
+    }
+
     /// Leaves out all moves, unless a move that finished at their time was made; after a Serve all are left out.
     #[inline(always)]
     pub(crate) fn made(&mut self, mv: Move, time: u64)
@@ -82,7 +92,7 @@ impl DueMoves {
             _ => time == self.time && time < u64::MAX,
         };
         if !goes_on {
-            *self = DueMoves::new();
+            self.clear();
         }
     }
 }

@@ -59,9 +59,9 @@ impl<'a> Visitor for Looking<'a> {
 }
 
 impl<'a> Looking<'a> {
-    /// The state before the first move.
+    /// The state before the first move. The moves that are there are written over.
     #[inline(always)]
-    pub(crate) fn new(clock: &'a Clock, core: &'a Core) -> Looking<'a>
+    pub(crate) fn new(clock: &'a Clock, core: &'a Core, moves: [Move; 8]) -> Looking<'a>
         ensures { result ≡ first_look (clocked clock.now core.now.state) }
     {
         Looking {
@@ -69,7 +69,7 @@ impl<'a> Looking<'a> {
             core,
             time: u64::MAX,
             count: 0,
-            moves: [Move::Exit; 8],
+            moves,
         }
     }
 
@@ -85,17 +85,14 @@ impl<'a> Looking<'a> {
         }
     }
 
-    /// The moves that were found, if their time is below the maximum `u64`.
+    /// Keeps the moves that were found, if their time is below the maximum `u64`.
     #[inline(always)]
-    pub(crate) fn due(&self) -> DueMoves
-        ensures { result ≡ kept_below self.now.kept }
+    pub(crate) fn keep(&self, kept: &mut DueMoves)
+        ensures { kept.new ≡ kept_below self.now.kept }
     {
-        let count = if self.time < u64::MAX { self.count } else { 0 };
-        DueMoves {
-            time: self.time,
-            next: 0,
-            count,
-            moves: self.moves,
-        }
+        kept.time = self.time;
+        kept.next = 0;
+        kept.count = if self.time < u64::MAX { self.count } else { 0 };
+        kept.moves = self.moves;
     }
 }

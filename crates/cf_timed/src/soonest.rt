@@ -89,9 +89,9 @@ impl Clock {
     {
         self.known();
         let _layout = core.layout();
-        let mut looking = Looking::new(self, core);
+        let mut looking = Looking::new(self, core, kept.moves);
         Candidates::visit_others(core, &mut looking);
-        *kept = looking.due();
+        looking.keep(kept);
     }
 
     /// The first of the kept moves that is still due; those before it are left out.

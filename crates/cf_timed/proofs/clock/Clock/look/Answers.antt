@@ -8,11 +8,11 @@ use Rattle.cf_timed.proofs.clock.Clock.look.Goals as goal
 pub returns-clause-due : goal.returns-clause-due
 returns-clause-due c =
     looked_due c.args.core.now.plan (clocked c.args.self.now c.args.core.now.state) _ c.layout-layout.ensures.facts.accepted c.known.ensures
-    (c.due.ensures ∙ ap (λ (s : Look). kept_below s.kept) (c.visit_others.ensures.shown
+    (c.keep.ensures ∙ ap (λ (s : Look). kept_below s.kept) (c.visit_others.ensures.shown
     ∙ ap (λ (s : Look). fold looked s (allowed_others c.args.core.now.plan c.args.core.now.state)) c.new-looking.ensures))
 
 pub returns-clause-still : goal.returns-clause-still
 returns-clause-still c =
     looked_still c.args.core.now.plan (clocked c.args.self.now c.args.core.now.state) _ c.layout-layout.ensures.facts.accepted c.known.ensures
-    (c.due.ensures ∙ ap (λ (s : Look). kept_below s.kept) (c.visit_others.ensures.shown
+    (c.keep.ensures ∙ ap (λ (s : Look). kept_below s.kept) (c.visit_others.ensures.shown
     ∙ ap (λ (s : Look). fold looked s (allowed_others c.args.core.now.plan c.args.core.now.state)) c.new-looking.ensures))
