@@ -7,7 +7,7 @@ ghost use Rattle.cf_timed.specs.Clocks.{NoneLater, allowed, capped, clocked, del
 
 use crate::class_at::class_at;
 use crate::delays::Delays;
-use crate::draws::{DelayDraws, stream_of};
+use crate::draws::DelayDraws;
 use cf_bind::Move;
 use cf_core::Core;
 use cf_layout::Layout;
@@ -93,7 +93,7 @@ impl Clock {
         ensures few { result ≤ 1000 }
     {
         let span = self.delays.of(mv, class_at(core, mv));
-        u64::from(span.ticks(self.draws.next_word(stream_of(mv))))
+        u64::from(span.ticks(self.draws.next_word(mv)))
     }
 
     /// When the move finishes if it is made now, capped at the maximum `u64`.
@@ -120,7 +120,7 @@ impl Clock {
     fn draw(&mut self, mv: Move)
         ensures { self.new ≡ drawing self.old mv }
     {
-        self.draws.take_word(stream_of(mv));
+        self.draws.take_word(mv);
     }
 
     /// Raises the maximum time to this one, if it is later.

@@ -73,14 +73,14 @@ impl DelayDraws {
         Lcg64Xsh32::from_state(state, stream as u64)
     }
 
-    /// The next word of the stream, if one is drawn.
+    /// The next word of the move's stream, if one is drawn.
     #[inline(always)]
     #[tactic(auto, unfolding(crate::specs::Drawing::next_word))]
-    pub(crate) fn next_word(&self, stream: usize) -> Option<u32>
-        ensures { result ≡ next_word self.now stream }
+    pub(crate) fn next_word(&self, mv: Move) -> Option<u32>
+        ensures { result ≡ next_word self.now (stream_of mv) }
     {
         match self.seed {
-            Some(_) => Some(self.generator(stream).next_word()),
+            Some(_) => Some(self.generator(stream_of(mv)).next_word()),
             None => None,
         }
     }
@@ -98,11 +98,22 @@ impl DelayDraws {
     /// Takes the next word of the stream.
     #[inline(always)]
     #[tactic(auto, unfolding(crate::specs::Drawing::after_word))]
-    pub(crate) fn take_word(&mut self, stream: usize)
+    fn take_from(&mut self, stream: usize)
         ensures { self.new ≡ after_word self.old stream }
     {
         if self.seed.is_some() && stream < 960 {
             self.states[stream] = self.next_state(stream);
+        }
+    }
+
+    /// Takes the next word of the move's stream, if one is drawn.
+    #[inline(always)]
+    #[tactic(auto, unfolding(crate::specs::Drawing::after_word))]
+    pub(crate) fn take_word(&mut self, mv: Move)
+        ensures { self.new ≡ after_word self.old (stream_of mv) }
+    {
+        if self.seed.is_some() {
+            self.take_from(stream_of(mv));
         }
     }
 }

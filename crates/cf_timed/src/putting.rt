@@ -10,16 +10,14 @@ use crate::clock::Clock;
 use crate::reaching::port;
 use cf_bind::Move;
 
-/// The cells of a siding with a new time for one of them.
+/// Sets the time of a cell of a siding, if it is among the cells.
 #[inline(always)]
-fn with_cell(row: [u64; 8], c: usize, time: u64) -> [u64; 8]
-    ensures { result ≡ slice_set row c time }
+fn put_in(row: &mut [u64; 8], c: usize, time: u64)
+    ensures { row.new ≡ slice_set row.old c time }
 {
-    let mut row = row;
     if c < 8 {
         row[c] = time;
     }
-    row
 }
 
 impl Clock {
@@ -42,7 +40,7 @@ impl Clock {
         ensures { self.new ≡ put_time self.old time (SidingCell k c) }
     {
         if k < 8 {
-            self.cells[k] = with_cell(self.cells[k], c, time);
+            put_in(&mut self.cells[k], c, time);
         }
     }
 
