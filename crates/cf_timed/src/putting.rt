@@ -57,29 +57,27 @@ impl Clock {
 
     /// Sets the time of the first cells of the sidings that launch at the stage.
     #[inline(always)]
-    #[tactic(auto, using(crate::proofs::SiteTimes::put_more, crate::proofs::SiteTimes::put_latest), unfolding(cf_index::specs::Sites::ways_in))]
+    #[tactic(auto, using(crate::proofs::SiteTimes::put_more, crate::proofs::SiteTimes::put_latest, crate::proofs::SiteTimes::put_same), unfolding(cf_index::specs::Sites::ways_in))]
     fn put_entries(&mut self, i: u32, time: u64)
         requires { time ≤ self.old.latest }
         ensures { self.new ≡ put_times self.old time (ways_in self.old.plan i) }
     {
-        let layout = *self.layout();
-        for k in 0..layout.siding_count() {
-            let launches = layout.launch_stage(k) == i;
+        for k in 0..self.layout().siding_count() {
+            let launches = self.layout().launch_stage(k) == i;
             self.put_cell_if(launches, k as usize, 0, time);
         }
     }
 
     /// Sets the time of the last cells of the sidings that recover at the stage.
     #[inline(always)]
-    #[tactic(auto, using(crate::proofs::SiteTimes::put_more, crate::proofs::SiteTimes::put_latest), unfolding(cf_index::specs::Sites::ways_out))]
+    #[tactic(auto, using(crate::proofs::SiteTimes::put_more, crate::proofs::SiteTimes::put_latest, crate::proofs::SiteTimes::put_same), unfolding(cf_index::specs::Sites::ways_out))]
     fn put_exits(&mut self, i: u32, time: u64)
         requires { time ≤ self.old.latest }
         ensures { self.new ≡ put_times self.old time (ways_out self.old.plan i) }
     {
-        let layout = *self.layout();
-        for k in 0..layout.siding_count() {
-            let recovers = layout.recover_stage(k) == i;
-            let last = layout.cells_of(k).saturating_sub(1);
+        for k in 0..self.layout().siding_count() {
+            let recovers = self.layout().recover_stage(k) == i;
+            let last = self.layout().cells_of(k).saturating_sub(1);
             self.put_cell_if(recovers, k as usize, last as usize, time);
         }
     }

@@ -6,7 +6,7 @@ use Rattle.cf_index.specs.Sites.{way_out}
 use Rattle.cf_timed.specs.Clocks.{put_times}
 use Rattle.cf_timed.proofs.clock.Clock.put_exits.Given as goal
 
--- those so far have the time, and no site has a later one
+-- those so far have the time, no site has a later one, and the layout is the same
 abbrev pub invariant-loop-k : goal.invariant-loop-k
 invariant-loop-k l = (l.self ≡ put_times l.fn.self l.time (map (way_out l.fn.self.plan) (filter (λ k. recover_stage l.fn.self.plan k == l.i)
-    (counted_from 0 l.k)))) × (l.self.latest ≡ l.fn.self.latest)
+    (counted_from 0 l.k)))) × (l.self.latest ≡ l.fn.self.latest) × (l.self.plan ≡ l.fn.self.plan)
