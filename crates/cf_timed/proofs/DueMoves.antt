@@ -318,37 +318,39 @@ pub none_before : (plan : Plan) (c : ClockedState) (kept : KeptMoves) → AreDue
     kept.time ≤ capped c (get_or (allowed_others plan c.state) k d)
 none_before plan c kept due = all_at (capped c) kept.time (allowed_others plan c.state) due.least
 
--- without a first move that is no longer due, what is kept is right
+-- without a first move that is no longer due, those that are due are the same
+pub still_skipped : (clock : SiteTimes) (kept : KeptMoves) (mv : Move) → Some mv ≡ slice_get kept.moves 0 → kept.time ≤ begin_time clock mv →
+    still_due clock (without_first kept) ≡ still_due clock kept
+unfolding still_due
+still_skipped clock kept mv at past = same kept.moves at
+  where
+    one : (x : Move) (xs : List Move) → x ≡ mv → filter (λ y. nat_lt (begin_time clock y) kept.time) xs
+        ≡ filter (λ y. nat_lt (begin_time clock y) kept.time) (x ∷ xs)
+    one x xs e = let f : nat_lt (begin_time clock x) kept.time ≡ false = rw e (grind (arith, nat_tests, past)) in rw f refl
+
+    same : (l : List Move) → Some mv ≡ slice_get l 0 → filter (λ y. nat_lt (begin_time clock y) kept.time) (drop 1 l)
+        ≡ filter (λ y. nat_lt (begin_time clock y) kept.time) l
+    same [] e = refl
+    same (x ∷ xs) e = one x xs (cc)
+
+-- and what is kept is right
 pub due_skipped : (plan : Plan) (c : ClockedState) (kept : KeptMoves) (mv : Move) → AreDue plan c kept → Some mv ≡ slice_get kept.moves 0 →
     kept.time ≤ begin_time c.clock mv → AreDue plan c (without_first kept)
-unfolding still_due
-due_skipped plan c kept mv due at past = by kept.moves refl
+due_skipped plan c kept mv due at past = record {
+  least = due.least;
+  others = due.others;
+  first = due.first ∙ ap (λ (l : List Move). l ++ due.others) (sym (still_skipped c.clock kept mv at past));
+  sites = rest kept.moves due.sites;
+  below = λ some. due.below (longer kept.moves some);
+}
   where
-    none : (x : Move) (xs : List Move) → x ≡ mv → filter (λ y. nat_lt (begin_time c.clock y) kept.time) (x ∷ xs)
-        ≡ filter (λ y. nat_lt (begin_time c.clock y) kept.time) xs
-    none x xs e = let f : nat_lt (begin_time c.clock x) kept.time ≡ false = rw e (grind (arith, nat_tests, past)) in rw f refl
-
     rest : (l : List Move) → AllByRecursion (AreKept plan) l → AllByRecursion (AreKept plan) (drop 1 l)
     rest [] h = tt
     rest (x ∷ xs) h = h.1
 
-    same : (l : List Move) → Some mv ≡ slice_get l 0 → filter (λ y. nat_lt (begin_time c.clock y) kept.time) l
-        ≡ filter (λ y. nat_lt (begin_time c.clock y) kept.time) (drop 1 l)
-    same [] e = refl
-    same (x ∷ xs) e = none x xs (cc)
-
     longer : (l : List Move) → 0 < length (drop 1 l) → 0 < length l
     longer [] some = some
     longer (x ∷ xs) some = omega arith
-
-    by : (l : List Move) → kept.moves ≡ l → AreDue plan c (without_first kept)
-    by l e = record {
-      least = due.least;
-      others = due.others;
-      first = due.first ∙ ap (λ (k : List Move). k ++ due.others) (same kept.moves at);
-      sites = rest kept.moves due.sites;
-      below = λ some. due.below (longer kept.moves some);
-    }
 
 -- and a first move that is due is the first of those that are
 pub first_still : (clock : SiteTimes) (kept : KeptMoves) (mv : Move) → Some mv ≡ slice_get kept.moves 0 → begin_time clock mv < kept.time →

@@ -1,5 +1,5 @@
 -- What is kept after a look at moves: the first of those that finish earliest.
-use Rattle.std.proofs.Common.{◌≡◌, ◌∙◌, refl, sym, ap, subst, ℕ, zero, suc, ◌-◌, ◌^◌, ◌<◌, ◌≤◌, List, [], ◌∷◌, ◌++◌, drop, fold, take, Bool, true, false, cond, nat_eq, nat_lt, arith, append-nil, append_assoc}
+use Rattle.std.proofs.Common.{◌≡◌, ◌∙◌, refl, sym, ap, subst, ℕ, zero, suc, ◌-◌, ◌^◌, ◌<◌, ◌≤◌, List, [], ◌∷◌, ◌++◌, drop, fold, length, take, Bool, true, false, cond, nat_eq, nat_lt, arith, append-nil, append_assoc}
 use Rattle.std.specs.Prelude.{filter}
 use Rattle.std.specs.List.{AllByRecursion}
 use Rattle.std.proofs.lemmas.Bool.Decides.{nat_tests}
@@ -23,6 +23,7 @@ with_time f t moves = filter (λ mv. nat_eq (f mv) t) moves
 record IsSeen (f : Move → ℕ) (seen : List Move) (kept : KeptMoves) : Type 0 where
   least : AllByRecursion (λ mv. kept.time ≤ f mv) seen
   moves : kept.moves ≡ take most_kept (with_time f kept.time seen)
+  some : kept.time < 2 ^ 64 - 1 → 0 < length (with_time f kept.time seen)
 
 -- a smaller time is that of none of them
 none_with : (f : Move → ℕ) (least t : ℕ) (xs : List Move) → t < least → AllByRecursion (λ mv. least ≤ f mv) xs → with_time f t xs ≡ []
@@ -42,6 +43,19 @@ take_again zero xs ys = refl
 take_again (suc n) [] ys = refl
 take_again (suc n) (x ∷ xs) ys = ap (λ (l : List Move). x ∷ l) (take_again n xs ys)
 
+some_before : (xs ys : List Move) → 0 < length xs → 0 < length (xs ++ ys)
+some_before [] ys some = absurd (omega (arith, some))
+some_before (x ∷ xs) ys some = omega arith
+
+some_after : (xs ys : List Move) → 0 < length ys → 0 < length (xs ++ ys)
+some_after [] ys some = some
+some_after (x ∷ xs) ys some = omega arith
+
+none_taken : (n : ℕ) (xs : List Move) → 0 < n → 0 < length xs → take n xs ≡ [] → ⊥
+none_taken zero xs many some e = omega (arith, many)
+none_taken (suc n) [] many some e = omega (arith, some)
+none_taken (suc n) (x ∷ xs) many some e = cc
+
 -- one more move
 seen_more : (f : Move → ℕ) (seen : List Move) (kept : KeptMoves) (mv : Move) → IsSeen f seen kept → IsSeen f (seen ++ mv ∷ []) (kept_with kept mv (f mv))
 seen_more f seen kept mv h = by (nat_lt (f mv) kept.time) (nat_eq (f mv) kept.time) refl refl
@@ -57,13 +71,13 @@ seen_more f seen kept mv h = by (nat_lt (f mv) kept.time) (nat_eq (f mv) kept.ti
         (cond same (record kept { moves = take most_kept (kept.moves ++ mv ∷ []) }) kept))
     by true same e g =
         let under : f mv < kept.time = grind (arith, nat_tests) in
+        let one : with_time f (f mv) (mv ∷ []) ≡ mv ∷ [] = rw itself refl in
+        let alone : with_time f (f mv) (seen ++ mv ∷ []) ≡ mv ∷ [] = parts (f mv)
+        ∙ ap (λ (l : List Move). l ++ with_time f (f mv) (mv ∷ [])) (none_with f kept.time (f mv) seen under h.least) ∙ one in
         record {
           least = all_both (λ x. f mv ≤ f x) seen (mv ∷ []) (all_lower f kept.time (f mv) seen (omega (arith, under)) h.least) (omega arith, tt);
-          moves =
-              let one : with_time f (f mv) (mv ∷ []) ≡ mv ∷ [] = rw itself refl in
-              sym (ap (take most_kept) (parts (f mv)
-              ∙ ap (λ (l : List Move). l ++ with_time f (f mv) (mv ∷ [])) (none_with f kept.time (f mv) seen under h.least)
-              ∙ one));
+          moves = sym (ap (take most_kept) alone);
+          some = λ below. rw alone (omega arith);
         }
     by false true e g =
         let is : f mv ≡ kept.time = grind (arith, nat_tests) in
@@ -75,6 +89,9 @@ seen_more f seen kept mv h = by (nat_lt (f mv) kept.time) (nat_eq (f mv) kept.ti
               ∙ take_again most_kept (with_time f kept.time seen) (mv ∷ [])
               ∙ ap (λ (l : List Move). take most_kept (with_time f kept.time seen ++ l)) (sym one)
               ∙ ap (take most_kept) (sym (parts kept.time));
+          some = λ below.
+              let one : with_time f kept.time (mv ∷ []) ≡ mv ∷ [] = rw g refl in
+              rw (parts kept.time) (some_after (with_time f kept.time seen) (with_time f kept.time (mv ∷ [])) (rw one (omega arith)));
         }
     by false false e g =
         let above : kept.time < f mv = grind (arith, nat_tests) in
@@ -86,6 +103,7 @@ seen_more f seen kept mv h = by (nat_lt (f mv) kept.time) (nat_eq (f mv) kept.ti
               ∙ ap (take most_kept) (sym (append-nil (with_time f kept.time seen)))
               ∙ ap (λ (l : List Move). take most_kept (with_time f kept.time seen ++ l)) (sym none)
               ∙ ap (take most_kept) (sym (parts kept.time));
+          some = λ below. rw (parts kept.time) (some_before (with_time f kept.time seen) (with_time f kept.time (mv ∷ [])) (h.some below));
         }
 
 -- all moves that are left
@@ -99,7 +117,7 @@ seen_rest c seen (mv ∷ rest) s same h =
     rw e at all
 
 seen_all : (c : ClockedState) (moves : List Move) → IsSeen (capped c) moves (fold looked (first_look c) moves).kept
-seen_all c moves = seen_rest c [] moves (first_look c) refl (record { least = tt; moves = refl })
+seen_all c moves = seen_rest c [] moves (first_look c) refl (record { least = tt; moves = refl; some = λ below. absurd (omega (arith, below)) })
 
 -- what passes a test, and the first of it
 all_pass : (p : Move → Bool) (xs : List Move) → AllByRecursion (λ mv. p mv ≡ true) xs → filter p xs ≡ xs
@@ -131,6 +149,7 @@ all_begin c t (x ∷ xs) spans below = by (nat_eq (capped c x) t) refl (all_begi
 record IsFresh (plan : Plan) (c : ClockedState) (kept : KeptMoves) : Type 0 where
   due : AreDue plan c kept
   still : still_due c.clock kept ≡ kept.moves
+  some : kept.moves ≡ [] → AllByRecursion (λ mv. 2 ^ 64 - 1 ≤ capped c mv) (allowed_others plan c.state)
 
 fresh : (plan : Plan) (c : ClockedState) (kept : KeptMoves) → IsAccepted plan → AreDelays c.clock.delays →
     IsSeen (capped c) (allowed_others plan c.state) kept → IsFresh plan c (kept_below kept)
@@ -147,6 +166,7 @@ fresh plan c kept acc spans h = by (nat_lt kept.time (2 ^ 64 - 1)) refl
     by false e = record {
       due = record { least = h.least; others = due; first = refl; sites = tt; below = λ some. absurd (omega (arith, some)) };
       still = refl;
+      some = λ none. let late : 2 ^ 64 - 1 ≤ kept.time = grind (arith, nat_tests) in all_lower (capped c) kept.time (2 ^ 64 - 1) others late h.least;
     }
     by true e =
         let below : kept.time < 2 ^ 64 - 1 = grind (arith, nat_tests) in
@@ -163,6 +183,7 @@ fresh plan c kept acc spans h = by (nat_lt kept.time (2 ^ 64 - 1)) refl
             below = λ some. below;
           };
           still = all;
+          some = λ none. absurd (none_taken most_kept due (omega arith) (h.some below) (sym h.moves ∙ none));
         }
 
 pub looked_due : (plan : Plan) (c : ClockedState) (kept : KeptMoves) → IsAccepted plan → AreDelays c.clock.delays →
@@ -176,3 +197,10 @@ pub looked_still : (plan : Plan) (c : ClockedState) (kept : KeptMoves) → IsAcc
 looked_still plan c kept acc spans e =
     subst (λ (k : KeptMoves). still_due c.clock k ≡ k.moves) (sym e) (fresh plan c (fold looked (first_look c) (allowed_others plan c.state)).kept acc spans
     (seen_all c (allowed_others plan c.state))).still
+
+pub looked_some : (plan : Plan) (c : ClockedState) (kept : KeptMoves) → IsAccepted plan → AreDelays c.clock.delays →
+    kept ≡ kept_below (fold looked (first_look c) (allowed_others plan c.state)).kept → kept.moves ≡ [] →
+    AllByRecursion (λ mv. 2 ^ 64 - 1 ≤ capped c mv) (allowed_others plan c.state)
+looked_some plan c kept acc spans e none =
+    (fresh plan c (fold looked (first_look c) (allowed_others plan c.state)).kept acc spans (seen_all c (allowed_others plan c.state))).some
+    (ap (λ (k : KeptMoves). k.moves) (sym e) ∙ none)

@@ -1,10 +1,11 @@
 //! The move that finishes earliest, found without filling in the candidates.
 
-ghost use Rattle.std.specs.Prelude.{◌≡◌, Bool, IfSome, None, [], slice_get, true};
+ghost use Rattle.std.specs.Prelude.{◌≡◌, ◌-◌, ◌≤◌, ◌^◌, Bool, IfSome, None, [], true};
+ghost use Rattle.std.specs.List.{AllByRecursion};
 ghost use Rattle.run_options.specs.declared.guess_rule.GuessRule.{GuessRule as Rule};
-ghost use Rattle.cf_index.specs.Allowed.{unheld_issues, withheld};
+ghost use Rattle.cf_index.specs.Allowed.{allowed_others, unheld_issues, withheld};
 ghost use Rattle.cf_index.specs.GuessRules.{guided};
-ghost use Rattle.cf_timed.specs.Clocks.{clocked};
+ghost use Rattle.cf_timed.specs.Clocks.{capped, clocked};
 ghost use Rattle.cf_timed.specs.DueMoves.{AreDue, still_due};
 ghost use Rattle.cf_timed.specs.Soonest.{AreLater, IsFirstDue, IsIssueBy, IsSoonest, IsTimed};
 
@@ -86,6 +87,7 @@ impl Clock {
     fn look(&self, core: &Core, kept: &mut DueMoves)
         ensures due { AreDue core.now.plan (clocked self.now core.now.state) kept.new }
         ensures still { still_due self.now kept.new ≡ kept.new.moves }
+        ensures some { kept.new.moves ≡ [] → AllByRecursion (λ mv. 2 ^ 64 - 1 ≤ capped (clocked self.now core.now.state) mv) (allowed_others core.now.plan core.now.state) }
     {
         self.known();
         let _layout = core.layout();
@@ -101,6 +103,7 @@ impl Clock {
         ensures due { AreDue core.now.plan (clocked self.now core.now.state) kept.new }
         ensures first { IfSome result (λ due. IsFirstDue (clocked self.now core.now.state) kept.new due) }
         ensures none { result ≡ None → still_due self.now kept.new ≡ [] }
+        ensures keeps { still_due self.now kept.new ≡ still_due self.now kept.old }
     {
         let _core = core;
         while let Some(mv) = kept.first() {
