@@ -108,7 +108,7 @@ impl Clock {
         let _core = core;
         while let Some(mv) = kept.first() {
             let time = kept.time();
-            let begin = self.reach(mv);
+            let begin = self.reach_any(mv);
             if begin < time {
                 let delay = time - begin;
                 return Some(Due { mv, delay, time });

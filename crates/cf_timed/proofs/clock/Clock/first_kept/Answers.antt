@@ -7,12 +7,12 @@ use Rattle.cf_timed.proofs.clock.Clock.first_kept.Goals as goal
 pub returns-then-begin-time-clause-first : goal.returns-then-begin-time-clause-first
 returns-then-begin-time-clause-first c =
     first_timed c.args.core.now.plan (clocked c.args.self.now c.args.core.now.state) c.loop-mv.kept _ c.loop-mv.invariant.0 c.in-Some.ensures
-    (omega (arith, c.reach-begin.ensures, c.time-time.ensures, c.if-begin-time.true))
-    (omega (arith, c.reach-begin.ensures, c.time-time.ensures)) c.time-time.ensures
+    (omega (arith, c.reach_any-begin.ensures, c.time-time.ensures, c.if-begin-time.true))
+    (omega (arith, c.reach_any-begin.ensures, c.time-time.ensures)) c.time-time.ensures
 
 pub loop-mv-preserved : goal.loop-mv-preserved
 loop-mv-preserved c =
-    let past : c.loop-mv.kept.time ≤ begin_time c.args.self.now c.in-Some.mv = omega (arith, c.reach-begin.ensures, c.time-time.ensures, c.if-begin-time.false)
+    let past : c.loop-mv.kept.time ≤ begin_time c.args.self.now c.in-Some.mv = omega (arith, c.reach_any-begin.ensures, c.time-time.ensures, c.if-begin-time.false)
     in (
       subst (AreDue c.args.core.now.plan (clocked c.args.self.now c.args.core.now.state)) (sym c.skip.ensures)
           (due_skipped c.args.core.now.plan (clocked c.args.self.now c.args.core.now.state) c.loop-mv.kept c.in-Some.mv c.loop-mv.invariant.0
