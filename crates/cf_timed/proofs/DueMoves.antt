@@ -1,6 +1,6 @@
 -- The moves that are due go on being right: after a move that finished at their time, those that share no site with it
 -- are left, and no other move has become due.
-use Rattle.std.proofs.Common.{◌≡◌, ◌∙◌, refl, sym, ap, subst, ℕ, zero, suc, ◌-◌, ◌^◌, ◌<◌, ◌≤◌, List, [], ◌∷◌, ◌++◌, drop, length, get_or, Some, None, Bool, true, false, cond, nat_eq, nat_lt, arith}
+use Rattle.std.proofs.Common.{◌≡◌, ◌∙◌, refl, sym, ap, subst, ℕ, zero, suc, ◌-◌, ◌^◌, ◌<◌, ◌≤◌, List, [], ◌∷◌, ◌++◌, drop, length, get_or, Option, Some, None, Bool, true, false, cond, nat_eq, nat_lt, arith}
 use Rattle.std.specs.Prelude.{◌&&◌, filter, not, slice_get}
 use Rattle.std.specs.List.{AllByRecursion}
 use Rattle.std.proofs.lemmas.Bool.Decides.{nat_tests}
@@ -23,7 +23,7 @@ use Rattle.cf_timed.specs.Clocks.{AreKept, ClockedState, IsClockOf, SiteTimes, a
 use Rattle.cf_timed.specs.Delays.{AreDelays, span_of}
 use Rattle.cf_timed.specs.DelayedRuns.{class_of_move}
 use Rattle.cf_timed.specs.Drawing.{next_word, stream_of}
-use Rattle.cf_timed.specs.DueMoves.{AreDue, KeptMoves, finishing, is_serve, kept_after, none_kept, still_due, without_first}
+use Rattle.cf_timed.specs.DueMoves.{AreDue, IsLeft, KeptMoves, finishing, is_serve, kept_after, none_kept, still_due, without_first}
 use Rattle.cf_timed.specs.Soonest.{IsFirstDue}
 use Rattle.cf_timed.specs.declared.soonest.Due.{Due}
 use Rattle.cf_timed.proofs.Delaying.{is_span, ticks_some}
@@ -31,6 +31,7 @@ use Rattle.cf_timed.proofs.Leasts.{IsFirst, after_one}
 use Rattle.cf_timed.proofs.Room.{all_moves_kept, all_passed}
 use Rattle.cf_timed.proofs.SiteTimes.{put_delays}
 use Rattle.cf_timed.proofs.Stamped.{begins_later, begins_same, delay_same}
+use Rattle.cf_timed.proofs.Streams.{stream_shared}
 use Rattle.cf_timed.proofs.Untouched.{allowed_stays, alone_ends, class_stays}
 
 -- one test after another, and two tests that agree
@@ -268,6 +269,104 @@ due_after plan m clock mv time kept acc sidings is_clock delays allowed here due
     by true e = due_none plan (clocked (stamped clock mv time) (next plan m mv).state)
     by false e = after (nat_eq time kept.time) (nat_lt time (2 ^ 64 - 1)) (stands_alone plan m.state mv) e refl refl refl
 
+-- without a first move that is no longer due, those that are due are the same
+pub still_skipped : (clock : SiteTimes) (kept : KeptMoves) (mv : Move) → Some mv ≡ slice_get kept.moves 0 → kept.time ≤ begin_time clock mv →
+    still_due clock (without_first kept) ≡ still_due clock kept
+unfolding still_due
+still_skipped clock kept mv at past = same kept.moves at
+  where
+    one : (x : Move) (xs : List Move) → x ≡ mv → filter (λ y. nat_lt (begin_time clock y) kept.time) xs
+        ≡ filter (λ y. nat_lt (begin_time clock y) kept.time) (x ∷ xs)
+    one x xs e = let f : nat_lt (begin_time clock x) kept.time ≡ false = rw e (grind (arith, nat_tests, past)) in rw f refl
+
+    same : (l : List Move) → Some mv ≡ slice_get l 0 → filter (λ y. nat_lt (begin_time clock y) kept.time) (drop 1 l)
+        ≡ filter (λ y. nat_lt (begin_time clock y) kept.time) l
+    same [] e = refl
+    same (x ∷ xs) e = one x xs (cc)
+
+-- and what is kept is right
+pub due_skipped : (plan : Plan) (c : ClockedState) (kept : KeptMoves) (mv : Move) → AreDue plan c kept → Some mv ≡ slice_get kept.moves 0 →
+    kept.time ≤ begin_time c.clock mv → AreDue plan c (without_first kept)
+due_skipped plan c kept mv due at past = record {
+  least = due.least;
+  others = due.others;
+  first = due.first ∙ ap (λ (l : List Move). l ++ due.others) (sym (still_skipped c.clock kept mv at past));
+  sites = rest kept.moves due.sites;
+  below = λ some. due.below (longer kept.moves some);
+}
+  where
+    rest : (l : List Move) → AllByRecursion (AreKept plan) l → AllByRecursion (AreKept plan) (drop 1 l)
+    rest [] h = tt
+    rest (x ∷ xs) h = h.1
+
+    longer : (l : List Move) → 0 < length (drop 1 l) → 0 < length l
+    longer [] some = some
+    longer (x ∷ xs) some = omega arith
+
+-- a kept move that is made is not due then, so what is left without it is right
+pub left_all : (plan : Plan) (c : ClockedState) (kept : KeptMoves) (mv : Move) → AreDue plan c kept → IsLeft plan c kept mv
+left_all plan c kept mv due = record { before = kept; due = due; skipped = false; left = refl; first = λ x skipped at. absurd (cc) }
+
+pub left_first : (plan : Plan) (c : ClockedState) (kept later : KeptMoves) (due : Due) → AreDue plan c kept → IsFirstDue c kept due →
+    later ≡ without_first kept → IsLeft plan c later due.mv
+left_first plan c kept later due right first is = record {
+  before = kept;
+  due = right;
+  skipped = true;
+  left = is;
+  first = λ x skipped at. let same : Some x ≡ Some due.mv = at ∙ sym first.mv in cc;
+}
+
+made_late : (plan : Plan) (clock : SiteTimes) (mv : Move) (t : ℕ) → IsClockOf plan clock → AreKept plan mv → t ≤ begin_time (stamped clock mv t) mv
+made_late plan clock mv t is_clock here =
+    let p = is_clock.plan_is in
+    let met = stream_shared plan mv mv here here refl in
+    begins_later clock mv mv t is_clock.room (rw p here) (rw p here) (rw p met)
+
+without_none : (kept : KeptMoves) → slice_get kept.moves 0 ≡ None → kept ≡ without_first kept
+without_none kept none = ap (λ (l : List Move). record kept { moves = l }) (same kept.moves none)
+  where
+    same : (l : List Move) → slice_get l 0 ≡ None → l ≡ drop 1 l
+    same [] e = refl
+    same (x ∷ xs) e = absurd (cc)
+
+due_without : (plan : Plan) (c : ClockedState) (kept : KeptMoves) (mv : Move) → AreDue plan c kept →
+    ((x : Move) → Some x ≡ slice_get kept.moves 0 → x ≡ mv) → kept.time ≤ begin_time c.clock mv → AreDue plan c (without_first kept)
+due_without plan c kept mv due first past = by (slice_get kept.moves 0) refl
+  where
+    by : (o : Option Move) → slice_get kept.moves 0 ≡ o → AreDue plan c (without_first kept)
+    by None e = subst (AreDue plan c) (without_none kept e) due
+    by (Some x) e =
+        let is = first x (sym e) in
+        due_skipped plan c kept mv due (ap Some (sym is) ∙ sym e) past
+
+pub left_after : (plan : Plan) (m : Moment) (clock : SiteTimes) (mv : Move) (time : ℕ) (kept : KeptMoves) → IsAccepted plan → HasSidings plan m.state →
+    IsClockOf plan clock → AreDelays clock.delays → bar plan m.state mv ≡ None → AreKept plan mv → IsLeft plan (clocked clock m.state) kept mv →
+    (next plan m mv).state.ending ≡ None → AreDue plan (clocked (stamped clock mv time) (next plan m mv).state) (kept_after kept mv time)
+left_after plan m clock mv time kept acc sidings is_clock delays allowed here left unended = by left.skipped refl
+  where
+    after : ClockedState
+    after = clocked (stamped clock mv time) (next plan m mv).state
+
+    right : AreDue plan after (kept_after left.before mv time)
+    right = due_after plan m clock mv time left.before acc sidings is_clock delays allowed here left.due unended
+
+    taken : (v s t : Bool) → nat_eq time left.before.time ≡ s → left.skipped ≡ true →
+        AreDue plan after (cond v none_kept (cond (s && t) left.before none_kept)) →
+        AreDue plan after (cond v none_kept (cond (s && t) (without_first left.before) none_kept))
+    taken true s t e skipped due = due
+    taken false false t e skipped due = due
+    taken false true false e skipped due = due
+    taken false true true e skipped due =
+        let same : time ≡ left.before.time = grind (arith, nat_tests) in
+        let late = made_late plan clock mv time is_clock here in
+        due_without plan after left.before mv due (λ x at. left.first x skipped at) (rw (← same) late)
+
+    by : (b : Bool) → left.skipped ≡ b → AreDue plan after (kept_after kept mv time)
+    by false e = subst (λ (k : KeptMoves). AreDue plan after (kept_after k mv time)) (sym (rw e at left.left)) right
+    by true e = subst (λ (k : KeptMoves). AreDue plan after (kept_after k mv time)) (sym (rw e at left.left))
+        (taken (is_serve mv) (nat_eq time left.before.time) (nat_lt time (2 ^ 64 - 1)) refl e right)
+
 -- the first of some moves that have the least time
 all_at : (f : Move → ℕ) (t : ℕ) (xs : List Move) → AllByRecursion (λ mv. t ≤ f mv) xs → (k : ℕ) (d : Move) → k < length xs → t ≤ f (get_or xs k d)
 all_at f t [] h k d below = absurd (omega arith)
@@ -318,41 +417,7 @@ pub none_before : (plan : Plan) (c : ClockedState) (kept : KeptMoves) → AreDue
     kept.time ≤ capped c (get_or (allowed_others plan c.state) k d)
 none_before plan c kept due = all_at (capped c) kept.time (allowed_others plan c.state) due.least
 
--- without a first move that is no longer due, those that are due are the same
-pub still_skipped : (clock : SiteTimes) (kept : KeptMoves) (mv : Move) → Some mv ≡ slice_get kept.moves 0 → kept.time ≤ begin_time clock mv →
-    still_due clock (without_first kept) ≡ still_due clock kept
-unfolding still_due
-still_skipped clock kept mv at past = same kept.moves at
-  where
-    one : (x : Move) (xs : List Move) → x ≡ mv → filter (λ y. nat_lt (begin_time clock y) kept.time) xs
-        ≡ filter (λ y. nat_lt (begin_time clock y) kept.time) (x ∷ xs)
-    one x xs e = let f : nat_lt (begin_time clock x) kept.time ≡ false = rw e (grind (arith, nat_tests, past)) in rw f refl
-
-    same : (l : List Move) → Some mv ≡ slice_get l 0 → filter (λ y. nat_lt (begin_time clock y) kept.time) (drop 1 l)
-        ≡ filter (λ y. nat_lt (begin_time clock y) kept.time) l
-    same [] e = refl
-    same (x ∷ xs) e = one x xs (cc)
-
--- and what is kept is right
-pub due_skipped : (plan : Plan) (c : ClockedState) (kept : KeptMoves) (mv : Move) → AreDue plan c kept → Some mv ≡ slice_get kept.moves 0 →
-    kept.time ≤ begin_time c.clock mv → AreDue plan c (without_first kept)
-due_skipped plan c kept mv due at past = record {
-  least = due.least;
-  others = due.others;
-  first = due.first ∙ ap (λ (l : List Move). l ++ due.others) (sym (still_skipped c.clock kept mv at past));
-  sites = rest kept.moves due.sites;
-  below = λ some. due.below (longer kept.moves some);
-}
-  where
-    rest : (l : List Move) → AllByRecursion (AreKept plan) l → AllByRecursion (AreKept plan) (drop 1 l)
-    rest [] h = tt
-    rest (x ∷ xs) h = h.1
-
-    longer : (l : List Move) → 0 < length (drop 1 l) → 0 < length l
-    longer [] some = some
-    longer (x ∷ xs) some = omega arith
-
--- and a first move that is due is the first of those that are
+-- a first move that is due is the first of those that are
 pub first_still : (clock : SiteTimes) (kept : KeptMoves) (mv : Move) → Some mv ≡ slice_get kept.moves 0 → begin_time clock mv < kept.time →
     Some mv ≡ slice_get (still_due clock kept) 0
 unfolding still_due
@@ -381,4 +446,4 @@ first_timed plan c kept due right at before takes time =
     let first = first_still c.clock kept due.mv at before in
     let is = (first_due plan c kept due.mv right first).is in
     let below = right.below (slice_get_within kept.moves 0 due.mv (sym at)) in
-    record { mv = first; delay = omega (arith, is, below, before, takes); time = time }
+    record { mv = at; begins = before; delay = omega (arith, is, below, before, takes); time = time }

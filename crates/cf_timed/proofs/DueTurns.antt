@@ -14,8 +14,8 @@ use Rattle.cf_sched.specs.Paces.{offered_by}
 use Rattle.cf_run.specs.Moving.{MoveDoes, RunPlace}
 use Rattle.cf_timed.specs.Clocks.{AreKept, IsClockOf, SiteTimes, clocked, stamped}
 use Rattle.cf_timed.specs.Delays.{AreDelays}
-use Rattle.cf_timed.specs.DueMoves.{AreDue, KeptMoves, kept_after}
-use Rattle.cf_timed.proofs.DueMoves.{due_after}
+use Rattle.cf_timed.specs.DueMoves.{AreDue, IsLeft, KeptMoves, kept_after}
+use Rattle.cf_timed.proofs.DueMoves.{left_after}
 use Rattle.cf_timed.proofs.Room.{offered_kept, one_of_all}
 use Rattle.cf_timed.proofs.Untouched.{has_sidings}
 
@@ -27,15 +27,15 @@ offered-kept r plan held s place mv acc there = one_of_all (AreKept plan) (offer
 -- unless the program has ended
 pub due-turned : (show : Reporting) (mv : Move) (event : Event) (now new : RunPlace) (clock after : SiteTimes) (time : ℕ) (kept later : KeptMoves) →
     IsProcessor now.core.plan now.core.state → IsClockOf now.core.plan clock → AreDelays clock.delays → AreKept now.core.plan mv →
-    MoveDoes show mv now new (Ok event) → AreDue now.core.plan (clocked clock now.core.state) kept → after ≡ stamped clock mv time →
+    MoveDoes show mv now new (Ok event) → IsLeft now.core.plan (clocked clock now.core.state) kept mv → after ≡ stamped clock mv time →
     later ≡ kept_after kept mv time → new.core.state.ending ≡ None → AreDue new.core.plan (clocked after new.core.state) later
 unfolding MoveDoes
-due-turned show mv event now new clock after time kept later facts is_clock delays here does due after_is later_is unended =
+due-turned show mv event now new clock after time kept later facts is_clock delays here does left after_is later_is unended =
     let plan : Plan = now.core.plan in
     let m : Moment = record { state = now.core.state; rest = does.makes.makes.rest; output = [] } in
     let there : (next plan m mv).state ≡ new.core.state = ap (λ (q : Moment). q.state) does.makes.makes.is in
     let right : AreDue plan (clocked (stamped clock mv time) (next plan m mv).state) (kept_after kept mv time) =
-    due_after plan m clock mv time kept facts.accepted (has_sidings plan now.core.state facts) is_clock delays does.makes.allowed here due
+    left_after plan m clock mv time kept facts.accepted (has_sidings plan now.core.state facts) is_clock delays does.makes.allowed here left
     (ap (λ (s : State). s.ending) there ∙ unended) in
     subst (λ (p : Plan). AreDue p (clocked after new.core.state) later) (sym does.makes.makes.plan)
     (subst (λ (k : KeptMoves). AreDue plan (clocked after new.core.state) k) (sym later_is)

@@ -24,7 +24,7 @@ use Rattle.cf_timed.specs.Earliest.{first_least}
 use Rattle.cf_timed.specs.DueMoves.{AreDue, KeptMoves}
 use Rattle.cf_timed.specs.Soonest.{AreLater, IsFirstDue, IsIssueBy, IsSoonest, IsTimed}
 use Rattle.cf_timed.specs.declared.soonest.Due.{Due}
-use Rattle.cf_timed.proofs.DueMoves.{first_due}
+use Rattle.cf_timed.proofs.DueMoves.{first_due, first_still}
 use Rattle.cf_timed.proofs.Leasts.{IsFirst, least-after, least-front, least-of_all}
 
 -- all Issues use the same sites and are of one kind
@@ -140,7 +140,7 @@ pub kept_soonest : (c : ClockedState) (r : GuessRule) (plan : Plan) (held : Bool
     IfSome o (λ due. IsSoonest c (withheld held (guided r plan c.state)) due)
 kept_soonest c r plan held kept None right first later = tt
 kept_soonest c r plan held kept (Some due) right first later =
-    let found = first_due plan c kept due.mv right first.mv in
+    let found = first_due plan c kept due.mv right (first_still c.clock kept due.mv first.mv first.begins) in
     other_soonest c r plan c.state held kept.time due found later (record { delay = first.delay; time = first.time ∙ sym found.is })
 
 -- what is offered, whether or not Issue is held back

@@ -1,6 +1,6 @@
 -- The moves that are due: of the allowed moves other than Issue, those that finish earliest, all at one time. They are
 -- kept while they are made one after another.
-use Rattle.std.specs.Prelude.{◌≡◌, ◌<◌, ◌≤◌, ◌-◌, ◌^◌, ℕ, List, [], ◌∷◌, ◌++◌, Bool, true, false, ◌&&◌, drop, filter, length, nat_eq, nat_lt, take, if◌then◌else◌}
+use Rattle.std.specs.Prelude.{◌≡◌, ◌<◌, ◌≤◌, ◌-◌, ◌^◌, ℕ, List, [], ◌∷◌, ◌++◌, Bool, true, false, ◌&&◌, Some, drop, filter, length, nat_eq, nat_lt, slice_get, take, if◌then◌else◌}
 use Rattle.std.specs.List.{AllByRecursion}
 use Rattle.cf_layout.specs.Layout.{Plan}
 use Rattle.cf_bind.specs.declared.moves.Move.{Move}
@@ -77,6 +77,14 @@ is_serve mv = false
 -- the moves but the first
 abbrev pub without_first : KeptMoves → KeptMoves
 without_first kept = record kept { moves = drop 1 kept.moves }
+
+-- what is kept beside a move that is to be made: what was right, or that without its first move, which is then the one
+pub record IsLeft (plan : Plan) (c : ClockedState) (kept : KeptMoves) (mv : Move) : Type 0 where
+  pub before : KeptMoves
+  pub due : AreDue plan c before
+  pub skipped : Bool
+  pub left : kept ≡ (if skipped then without_first before else before)
+  pub first : (x : Move) → skipped ≡ true → Some x ≡ slice_get before.moves 0 → x ≡ mv
 
 -- what is kept after a move that finished at this time: the same, if that is the time of the kept moves, unless the
 -- move was a Serve

@@ -2,8 +2,8 @@
 use Rattle.std.specs.Prelude.{◌≡◌, ℕ, ◌<◌, ◌≤◌, All, List, Some, slice_get}
 use Rattle.cf_bind.specs.declared.moves.Move.{Move}
 use Rattle.cf_timed.specs.declared.soonest.Due.{Due}
-use Rattle.cf_timed.specs.Clocks.{ClockedState, capped, delay_by}
-use Rattle.cf_timed.specs.DueMoves.{KeptMoves, still_due}
+use Rattle.cf_timed.specs.Clocks.{ClockedState, begin_time, capped, delay_by}
+use Rattle.cf_timed.specs.DueMoves.{KeptMoves}
 use Rattle.cf_timed.specs.Earliest.{first_least}
 
 -- how long it takes if it is made now, and when it finishes
@@ -22,9 +22,10 @@ pub record IsIssueBy (c : ClockedState) (issues : List Move) (by : ℕ) (due : D
   pub timed : IsTimed c due
   pub soon : due.time ≤ by
 
--- it is the first of the kept moves that are still due, with its delay and their time
+-- it is the first of the kept moves, which is still due, with its delay and their time
 pub record IsFirstDue (c : ClockedState) (kept : KeptMoves) (due : Due) : Type 0 where
-  pub mv : Some due.mv ≡ slice_get (still_due c.clock kept) 0
+  pub mv : Some due.mv ≡ slice_get kept.moves 0
+  pub begins : begin_time c.clock due.mv < kept.time
   pub delay : due.delay ≡ delay_by c due.mv
   pub time : due.time ≡ kept.time
 

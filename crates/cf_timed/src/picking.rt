@@ -3,7 +3,7 @@
 ghost use Rattle.std.specs.Prelude.{◌≡◌, ◌<◌, None, Some, length, slice_get};
 ghost use Rattle.cf_sched.specs.Paces.{offered_by, offers};
 ghost use Rattle.cf_timed.specs.Clocks.{capped, clocked};
-ghost use Rattle.cf_timed.specs.DueMoves.{AreDue};
+ghost use Rattle.cf_timed.specs.DueMoves.{AreDue, IsLeft};
 ghost use Rattle.cf_timed.specs.Earliest.{first_least};
 ghost use Rattle.cf_timed.specs.Soonest.{IsSoonest};
 
@@ -48,7 +48,7 @@ impl Clock {
 
     /// The first of the offered moves that finish earliest.
     #[inline(always)]
-    #[tactic(auto, using(crate::proofs::Sooner::soonest_offered))]
+    #[tactic(auto, using(crate::proofs::DueMoves::left_all, crate::proofs::Sooner::soonest_offered))]
     fn earliest_offered(
         &self,
         core: &Core,
@@ -59,7 +59,7 @@ impl Clock {
         requires some { 0 < length (offers pace.now core.now.plan core.now.state) }
         requires due { AreDue core.now.plan (clocked self.now core.now.state) kept.old }
         ensures soonest { IsSoonest (clocked self.now core.now.state) (offers pace.now core.now.plan core.now.state) result }
-        ensures due { AreDue core.now.plan (clocked self.now core.now.state) kept.new }
+        ensures left { IsLeft core.now.plan (clocked self.now core.now.state) kept.new result.mv }
     {
         match self.soonest(core, pace.rule(), pace.held(), kept) {
             Some(due) => due,
@@ -81,7 +81,7 @@ impl Clock {
         requires some { 0 < length (offered_by pace.now.rule core.now.plan pace.now.count core.now.state) }
         requires due { AreDue core.now.plan (clocked self.now core.now.state) kept.old }
         ensures soonest { IsSoonest (clocked self.now core.now.state) (offered_by pace.now.rule core.now.plan pace.now.count core.now.state) result }
-        ensures due { AreDue core.now.plan (clocked self.now core.now.state) kept.new }
+        ensures left { IsLeft core.now.plan (clocked self.now core.now.state) kept.new result.mv }
     {
         self.earliest_offered(core, candidates, pace, kept)
     }

@@ -6,7 +6,7 @@ ghost use Rattle.run_options.specs.declared.guess_rule.GuessRule.{GuessRule as R
 ghost use Rattle.cf_index.specs.Allowed.{allowed_others, unheld_issues, withheld};
 ghost use Rattle.cf_index.specs.GuessRules.{guided};
 ghost use Rattle.cf_timed.specs.Clocks.{capped, clocked};
-ghost use Rattle.cf_timed.specs.DueMoves.{AreDue, still_due};
+ghost use Rattle.cf_timed.specs.DueMoves.{AreDue, IsLeft, still_due};
 ghost use Rattle.cf_timed.specs.Soonest.{AreLater, IsFirstDue, IsIssueBy, IsSoonest, IsTimed};
 
 use crate::clock::Clock;
@@ -141,8 +141,28 @@ impl Clock {
         }
     }
 
+    /// The first of the kept moves, if it is due; it is left out.
+    #[inline(always)]
+    fn taken(&self, core: &Core, first: Option<Due>, kept: &mut DueMoves) -> Option<Due>
+        requires due { AreDue core.now.plan (clocked self.now core.now.state) kept.old }
+        requires first { IfSome first (λ due. IsFirstDue (clocked self.now core.now.state) kept.old due) }
+        ensures same { result ≡ first }
+        ensures left { IfSome result (λ due. IsLeft core.now.plan (clocked self.now core.now.state) kept.new due.mv) }
+        ensures due { result ≡ None → AreDue core.now.plan (clocked self.now core.now.state) kept.new }
+    {
+        let _core = core;
+        match first {
+            Some(due) => {
+                kept.skip();
+                Some(due)
+            }
+            None => None,
+        }
+    }
+
     /// The first of the allowed moves that the guess rule keeps and that finish earliest, whether or not Issue is held
-    /// back. It may be `None` if no time of a move other than Issue is below the maximum `u64`.
+    /// back. If it is one of those that are kept, it is left out, since it is made. It may be `None` if no time of a move
+    /// other than Issue is below the maximum `u64`.
     #[inline(always)]
     pub(crate) fn soonest(
         &self,
@@ -152,13 +172,14 @@ impl Clock {
         kept: &mut DueMoves,
     ) -> Option<Due>
         requires due { AreDue core.now.plan (clocked self.now core.now.state) kept.old }
-        ensures due { AreDue core.now.plan (clocked self.now core.now.state) kept.new }
+        ensures left { IfSome result (λ due. IsLeft core.now.plan (clocked self.now core.now.state) kept.new due.mv) }
+        ensures due { result ≡ None → AreDue core.now.plan (clocked self.now core.now.state) kept.new }
         ensures soonest { IfSome result (λ due. IsSoonest (clocked self.now core.now.state) (withheld held (guided rule core.now.plan core.now.state)) due) }
     {
         let first = self.first_due(core, kept);
         match self.issue_by(core, rule, held, kept.time()) {
             Some(due) => Some(due),
-            None => first,
+            None => self.taken(core, first, kept),
         }
     }
 }

@@ -34,7 +34,7 @@ pub returns-in-Ok-clause-due : goal.returns-in-Ok-clause-due
 returns-in-Ok-clause-due g c = λ unended.
     due-turned _ _ _ _ _ _ _ c.earliest-due.result.time _ _ c.layout-layout.ensures.facts c.requires.clock c.known.ensures
     (offered-kept _ _ _ _ _ _ c.layout-layout.ensures.facts.accepted c.earliest-due.ensures.soonest.mv) c.in-Ok.ensures.does
-    c.earliest-due.ensures.due c.stamp.ensures c.made.ensures unended
+    c.earliest-due.ensures.left c.stamp.ensures c.made.ensures unended
 
 pub returns-in-Err-clause-turns : goal.returns-in-Err-clause-turns
 returns-in-Err-clause-turns g c =
