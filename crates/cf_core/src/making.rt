@@ -92,6 +92,55 @@ impl Processor {
         event
     }
 
+    /// Makes an allowed Launch.
+    // It is rare, so that it stays a call; so do the other moves at the sidings.
+    #[inline(never)]
+    fn make_launch(&mut self, marks: &mut Marks, i: u32)
+        requires facts { IsProcessor self.old.plan self.old.state }
+        requires allowed { row_bar self.old.plan self.old.state (mv.Launch i) ≡ None }
+        requires marks { marks.old ≡ marks_of self.old.plan self.old.state }
+        ensures processor { self.new ≡ after_move self.old (mv.Launch i) }
+        ensures marks { marks.new ≡ marks_of self.new.plan self.new.state }
+    {
+        self.make_and_mark(marks, Move::Launch(i));
+    }
+
+    /// Makes an allowed Slide.
+    #[inline(never)]
+    fn make_slide(&mut self, marks: &mut Marks, k: u32, c: u32)
+        requires facts { IsProcessor self.old.plan self.old.state }
+        requires allowed { row_bar self.old.plan self.old.state (mv.Slide k c) ≡ None }
+        requires marks { marks.old ≡ marks_of self.old.plan self.old.state }
+        ensures processor { self.new ≡ after_move self.old (mv.Slide k c) }
+        ensures marks { marks.new ≡ marks_of self.new.plan self.new.state }
+    {
+        self.make_and_mark(marks, Move::Slide(k, c));
+    }
+
+    /// Makes an allowed Access.
+    #[inline(never)]
+    fn make_access(&mut self, marks: &mut Marks)
+        requires facts { IsProcessor self.old.plan self.old.state }
+        requires allowed { row_bar self.old.plan self.old.state mv.Access ≡ None }
+        requires marks { marks.old ≡ marks_of self.old.plan self.old.state }
+        ensures processor { self.new ≡ after_move self.old mv.Access }
+        ensures marks { marks.new ≡ marks_of self.new.plan self.new.state }
+    {
+        self.make_and_mark(marks, Move::Access);
+    }
+
+    /// Makes an allowed Recover.
+    #[inline(never)]
+    fn make_recover(&mut self, marks: &mut Marks, i: u32)
+        requires facts { IsProcessor self.old.plan self.old.state }
+        requires allowed { row_bar self.old.plan self.old.state (mv.Recover i) ≡ None }
+        requires marks { marks.old ≡ marks_of self.old.plan self.old.state }
+        ensures processor { self.new ≡ after_move self.old (mv.Recover i) }
+        ensures marks { marks.new ≡ marks_of self.new.plan self.new.state }
+    {
+        self.make_and_mark(marks, Move::Recover(i));
+    }
+
     /// Makes an allowed Climb. Of an instruction that has still work to do little is marked anew, of any other nothing.
     #[inline(always)]
     fn make_climb(&mut self, marks: &mut Marks, i: u32)
@@ -133,8 +182,10 @@ impl Processor {
             Move::Issue(guess) => self.make_and_mark(marks, Move::Issue(guess)),
             Move::Execute(i) => self.make_and_mark(marks, Move::Execute(i)),
             Move::Send(i) => self.make_and_mark(marks, Move::Send(i)),
-            Move::Launch(_) | Move::Slide(_, _) => self.make_rarely(marks, m),
-            Move::Access | Move::Recover(_) => self.make_rarely(marks, m),
+            Move::Launch(i) => self.make_launch(marks, i),
+            Move::Slide(k, c) => self.make_slide(marks, k, c),
+            Move::Access => self.make_access(marks),
+            Move::Recover(i) => self.make_recover(marks, i),
             Move::Serve => unreachable!(),
         }
         Event::Plain
