@@ -1,6 +1,6 @@
 //! The moves that are due at one time, kept while they are made one after another.
 
-ghost use Rattle.std.specs.Prelude.{◌≡◌, slice_get};
+ghost use Rattle.std.specs.Prelude.{◌≡◌, MatchOption, None, Some, slice_get};
 ghost use Rattle.cf_timed.specs.DueMoves.{kept_after, none_kept, without_first};
 
 use cf_bind::Move;
@@ -51,11 +51,11 @@ impl DueMoves {
     /// The first of the moves.
     #[inline(always)]
     #[tactic(auto, using(crate::proofs::KeptLists::kept_first, crate::proofs::KeptLists::kept_none))]
-    pub(crate) fn first(&self) -> Option<Move>
-        ensures { result ≡ slice_get self.now.moves 0 }
+    pub(crate) fn first(&self) -> Option<&Move>
+        ensures { MatchOption result (None ≡ slice_get self.now.moves 0) (λ mv. Some mv.now ≡ slice_get self.now.moves 0) }
     {
         if self.next < self.count {
-            Some(self.moves[self.next])
+            Some(&self.moves[self.next])
         } else {
             None
         }

@@ -132,22 +132,22 @@ impl Clock {
 
     /// The same as `reach` by a call.
     #[inline(never)]
-    fn reach_called(&self, mv: Move) -> u64
-        ensures { result ≡ greatest (map (time_at self.now) (used self.now.plan mv)) }
+    fn reach_called(&self, mv: &Move) -> u64
+        ensures { result ≡ greatest (map (time_at self.now) (used self.now.plan mv.now)) }
     {
-        self.reach(mv)
+        self.reach(*mv)
     }
 
     /// The same as `reach` for a move of whatever kind.
     // A loop over moves would first read the times of all sites that it may need; so those of the rarer kinds are read
     // by a call.
     #[inline(always)]
-    pub(crate) fn reach_any(&self, mv: Move) -> u64
-        ensures { result ≡ greatest (map (time_at self.now) (used self.now.plan mv)) }
+    pub(crate) fn reach_any(&self, mv: &Move) -> u64
+        ensures { result ≡ greatest (map (time_at self.now) (used self.now.plan mv.now)) }
     {
-        match mv {
+        match *mv {
             Move::Climb(_) | Move::Fall(_) | Move::Meet(_) | Move::Execute(_) | Move::Send(_) => {
-                self.reach(mv)
+                self.reach(*mv)
             }
             Move::Issue(_)
             | Move::Emit

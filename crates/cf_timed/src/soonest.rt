@@ -110,8 +110,11 @@ impl Clock {
             let time = kept.time();
             let begin = self.reach_any(mv);
             if begin < time {
-                let delay = time - begin;
-                return Some(Due { mv, delay, time });
+                return Some(Due {
+                    mv: *mv,
+                    delay: time - begin,
+                    time,
+                });
             }
             kept.skip();
         }
@@ -161,8 +164,8 @@ impl Clock {
     }
 
     /// The first of the allowed moves that the guess rule keeps and that finish earliest, whether or not Issue is held
-    /// back. If it is one of those that are kept, it is left out, since it is made. It may be `None` if no time of a move
-    /// other than Issue is below the maximum `u64`.
+    /// back. If it is one of the kept moves, it is left out of them, since it is made. It may be `None` if no time of a
+    /// move other than Issue is below the maximum `u64`.
     #[inline(always)]
     pub(crate) fn soonest(
         &self,

@@ -12,12 +12,12 @@ returns-then-begin-time-clause-first c =
 
 pub loop-mv-preserved : goal.loop-mv-preserved
 loop-mv-preserved c =
-    let past : c.loop-mv.kept.time ≤ begin_time c.args.self.now c.in-Some.mv = omega (arith, c.reach_any-begin.ensures, c.time-time.ensures, c.if-begin-time.false)
+    let past : c.loop-mv.kept.time ≤ begin_time c.args.self.now c.in-Some.mv.now = omega (arith, c.reach_any-begin.ensures, c.time-time.ensures, c.if-begin-time.false)
     in (
       subst (AreDue c.args.core.now.plan (clocked c.args.self.now c.args.core.now.state)) (sym c.skip.ensures)
-          (due_skipped c.args.core.now.plan (clocked c.args.self.now c.args.core.now.state) c.loop-mv.kept c.in-Some.mv c.loop-mv.invariant.0
+          (due_skipped c.args.core.now.plan (clocked c.args.self.now c.args.core.now.state) c.loop-mv.kept c.in-Some.mv.now c.loop-mv.invariant.0
           c.in-Some.ensures past),
-      ap (still_due c.args.self.now) c.skip.ensures ∙ still_skipped c.args.self.now c.loop-mv.kept c.in-Some.mv c.in-Some.ensures past
+      ap (still_due c.args.self.now) c.skip.ensures ∙ still_skipped c.args.self.now c.loop-mv.kept c.in-Some.mv.now c.in-Some.ensures past
           ∙ c.loop-mv.invariant.1,
     )
 
