@@ -22,7 +22,8 @@ use Rattle.cf_core.specs.Processors.{IsProcessor, Processor, after_move, in_stat
 use Rattle.cf_core.specs.declared.marks.Marks.{Marks}
 use Rattle.cf_core.specs.declared.marks.StageMark.{StageMark}
 use Rattle.cf_core.proofs.KeptMarks.{marks-same}
-use Rattle.cf_core.proofs.StillMarks.{Same, moved-same}
+use Rattle.cf_core.proofs.SameStages.{Same}
+use Rattle.cf_core.proofs.StillMarks.{moved-same}
 use Rattle.cf_core.proofs.moves.KeptStages.{fall-kept}
 
 -- the state with other contents of the stages
