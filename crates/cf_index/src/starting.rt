@@ -18,21 +18,22 @@ use cf_bind::Move;
 use cf_core::Core;
 use run_options::GuessRule;
 
-/// Whether no Issue is offered because Issue is held back, because fetch waits, or because the lowest stage has an
-/// instruction. Nothing is decoded, so any other reason is not seen.
+/// Whether no Issue is offered because the lowest stage has an instruction, because Issue is held back, or because fetch
+/// waits. Nothing is decoded, so any other reason is not seen.
+// The first is the usual reason.
 #[inline(always)]
 #[tactic(auto, using(crate::proofs::StartsOver::issuing_none))]
 fn issues_none(core: &Core, held: bool) -> bool
     ensures none { (rule : Rule) → result ≡ true → unheld_issues held rule core.now.plan core.now.state ≡ [] }
     ensures unheld { result ≡ false → held ≡ false }
 {
+    if !is_lowest_free(core) {
+        return true;
+    }
     if held {
         return true;
     }
-    if !is_running(core.fetch()) {
-        return true;
-    }
-    !is_lowest_free(core)
+    !is_running(core.fetch())
 }
 
 /// Whether the move of this rank was an Issue, or is of one of the last kinds and no move comes after it except one

@@ -323,8 +323,8 @@ pub(crate) fn sweep_once<T: OnceKind>(
 
 /// Makes the moves of Emit and of each kind over the stages that the rule picks one after another, until it picks
 /// another move, if the search starts over after the last pick.
-// Not inlined, so that the loop of a run stays small.
-#[inline(never)]
+// It is a part of the loop over rounds, of which the caller makes a call.
+#[inline(always)]
 pub(crate) fn sweep_stages(
     core: &mut Core,
     last: Move,

@@ -211,6 +211,15 @@ passenger-read ps qs riding flying met i p h low within e =
     let b : p ≡ s.rider = cc in
     b ∙ sym (ap (λ (o : Option Cell). on o None (λ c. c.passenger)) s.here)
 
+-- the entry of a stage with an instruction has it
+pub rider-there : (ps : List (Option Passenger)) (qs : List (Option Packet)) (riding flying met i : ℕ) → AreParts ps qs riding flying met →
+    0 < i → i ≤ length ps → IsSome (passenger_at (all_cells ps qs met) i) → IsSome (slice_index_or ps (i - 1) None)
+rider-there ps qs riding flying met i h low within there =
+    let s = stood ps qs met i low within h.pipes in
+    let a : Some (slice_index_or ps (i - 1) None) ≡ Some s.rider = sym (slice_get-get_or ps (i - 1) None (omega arith)) ∙ s.rides in
+    let b : slice_index_or ps (i - 1) None ≡ s.rider = cc in
+    subst (λ (o : Option Passenger). IsSome o) (ap (λ (o : Option Cell). on o None (λ c. c.passenger)) s.here ∙ sym b) there
+
 pub packet-read : (ps : List (Option Passenger)) (qs : List (Option Packet)) (riding flying met i : ℕ) (q : Option Packet) → AreParts ps qs riding flying met →
     0 < i → i ≤ length ps →
     q ≡ slice_index_or qs (i - 1) q → q ≡ packet_at (all_cells ps qs met) i

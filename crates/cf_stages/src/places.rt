@@ -12,14 +12,19 @@ use crate::words::{is_there, with_bit};
 use cf_bind::{Cell, Packet, Passenger};
 
 /// Copies the instruction of one entry into another.
+// The instruction is copied straight from one to the other; an entry as a whole would be put together in between.
 #[inline(always)]
 fn carry(places: &mut Vec<Option<Passenger>>, from: usize, to: usize)
     requires from { from < length places.old.items }
     requires to { to < length places.old.items }
+    requires there { IsSome (slice_index_or places.old.items from None) }
     ensures copied { places.new.items ≡ slice_set places.old.items to (slice_index_or places.old.items from None) }
     ensures count { length places.new.items ≡ length places.old.items }
 {
-    places[to] = places[from];
+    match places[from] {
+        Some(passenger) => places[to] = Some(passenger),
+        None => unreachable!(),
+    }
 }
 
 impl Stages {

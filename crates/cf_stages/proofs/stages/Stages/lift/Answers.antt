@@ -1,12 +1,18 @@
 -- The bit words follow an instruction to a higher stage.
-use Rattle.std.proofs.Common.{ℕ, ◌-◌, ◌∙◌, List, ap, sym, subst, true}
+use Rattle.std.proofs.Common.{ℕ, ◌-◌, ◌∙◌, List, ap, sym, subst, true, arith}
 use Rattle.std.specs.Prelude.{IsNone, IsSome}
 use Rattle.cf_bind.specs.declared.cell.Cell.{Cell}
 use Rattle.cf_stages.specs.Changes.{passenger_at}
 use Rattle.cf_stages.specs.Words.{with_bit}
-use Rattle.cf_stages.proofs.Kept.{within-pipe}
+use Rattle.cf_stages.proofs.Kept.{rider-there, within-pipe}
 use Rattle.cf_stages.proofs.Lifted.{lifted-parts}
 use Rattle.cf_stages.proofs.stages.Stages.lift.Goals as goal
+
+pub carry-requires-clause-there : goal.carry-requires-clause-there
+carry-requires-clause-there c =
+    let within = within-pipe _ _ _ _ _ c.args.j _ c.self.invariant c.self.view_is c.requires.within in
+    rider-there _ _ _ _ _ c.args.i c.self.invariant c.requires.above (omega (arith, c.requires.order, within))
+    (subst (λ (cells : List Cell). IsSome (passenger_at cells c.args.i)) (sym c.self.view_is) c.requires.there)
 
 pub invariant_of-self : goal.invariant_of-self
 invariant_of-self c =
