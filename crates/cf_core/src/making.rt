@@ -1,5 +1,5 @@
 //! A move together with what it changes in the marks. For most kinds it depends on the kind alone what is to be marked
-//! anew, so that a caller who knows the kind tests nothing.
+//! again, so that a caller who knows the kind tests nothing.
 
 ghost use Rattle.std.specs.Prelude.{◌≡◌, ◌≢◌, ◌+◌, ◌<◌, ◌^◌, None};
 ghost use Rattle.rv_machine.specs.Streams.{streams_of};
@@ -14,15 +14,77 @@ ghost use Rattle.cf_core.specs.Stepping.{MakesOrFails, input_made, output_made};
 use crate::fault::Fault;
 use crate::marks::Marks;
 use crate::processor::Processor;
-use cf_bind::Move;
+use crate::touching::Touched;
+use cf_bind::{Guess, Move};
 use cf_io::{Sink, Source};
 use cf_semantics::Event;
 
 impl Processor {
-    /// Makes an allowed move, which is not Serve, and marks the stages that it touched, without a test whether their
-    /// marks stay as they were.
+    /// Makes an allowed Issue, and marks the lowest stage.
     #[inline(always)]
-    fn make_and_mark(&mut self, marks: &mut Marks, m: Move)
+    fn make_issue(&mut self, marks: &mut Marks, guess: Guess)
+        requires facts { IsProcessor self.old.plan self.old.state }
+        requires allowed { row_bar self.old.plan self.old.state (mv.Issue guess) ≡ None }
+        requires marks { marks.old ≡ marks_of self.old.plan self.old.state }
+        ensures processor { self.new ≡ after_move self.old (mv.Issue guess) }
+        ensures marks { marks.new ≡ marks_of self.new.plan self.new.state }
+    {
+        let touched = Touched::alone(1);
+        self.issue(guess);
+        self.remark(marks, touched);
+    }
+
+    /// Makes an allowed Execute, and marks its stage.
+    #[inline(always)]
+    fn make_execute(&mut self, marks: &mut Marks, i: u32)
+        requires facts { IsProcessor self.old.plan self.old.state }
+        requires allowed { row_bar self.old.plan self.old.state (mv.Execute i) ≡ None }
+        requires marks { marks.old ≡ marks_of self.old.plan self.old.state }
+        ensures processor { self.new ≡ after_move self.old (mv.Execute i) }
+        ensures marks { marks.new ≡ marks_of self.new.plan self.new.state }
+    {
+        let touched = Touched::alone(i);
+        self.execute(i);
+        self.remark(marks, touched);
+    }
+
+    /// Makes an allowed Send, and marks its stage.
+    #[inline(always)]
+    fn make_send(&mut self, marks: &mut Marks, i: u32)
+        requires facts { IsProcessor self.old.plan self.old.state }
+        requires allowed { row_bar self.old.plan self.old.state (mv.Send i) ≡ None }
+        requires marks { marks.old ≡ marks_of self.old.plan self.old.state }
+        ensures processor { self.new ≡ after_move self.old (mv.Send i) }
+        ensures marks { marks.new ≡ marks_of self.new.plan self.new.state }
+    {
+        let touched = Touched::alone(i);
+        self.send(i);
+        self.remark(marks, touched);
+    }
+
+    /// Makes an allowed Meet, marks its stage unless the marks stay as they were, and returns what is seen of it.
+    #[inline(always)]
+    fn make_meet(&mut self, marks: &mut Marks, i: u32) -> Event
+        requires facts { IsProcessor self.old.plan self.old.state }
+        requires allowed { row_bar self.old.plan self.old.state (mv.Meet i) ≡ None }
+        requires marks { marks.old ≡ marks_of self.old.plan self.old.state }
+        ensures processor { self.new ≡ after_move self.old (mv.Meet i) }
+        ensures event { IsEvent self.old.plan self.old.state (mv.Meet i) result }
+        ensures marks { marks.new ≡ marks_of self.new.plan self.new.state }
+    {
+        let keeps = self.keeps_marks(*marks, Move::Meet(i));
+        let touched = Touched::alone(i);
+        let event = self.meet(i);
+        if keeps {
+            return event;
+        }
+        self.remark(marks, touched);
+        event
+    }
+
+    /// Makes an allowed Fall or Emit by which a result comes to a stage with a Launch marked, and marks the stages that it touched.
+    #[inline(never)]
+    fn make_beside_launch(&mut self, marks: &mut Marks, m: Move)
         requires facts { IsProcessor self.old.plan self.old.state }
         requires allowed { row_bar self.old.plan self.old.state m ≡ None }
         requires count { m ≡ mv.Leave → self.old.state.retired + 1 < 2 ^ 64 }
@@ -36,64 +98,41 @@ impl Processor {
         self.remark(marks, touched);
     }
 
-    /// The same as a call, for moves that are rare.
-    #[inline(never)]
-    fn make_rarely(&mut self, marks: &mut Marks, m: Move)
-        requires facts { IsProcessor self.old.plan self.old.state }
-        requires allowed { row_bar self.old.plan self.old.state m ≡ None }
-        requires count { m ≡ mv.Leave → self.old.state.retired + 1 < 2 ^ 64 }
-        requires other { m ≢ mv.Serve }
-        requires marks { marks.old ≡ marks_of self.old.plan self.old.state }
-        ensures processor { self.new ≡ after_move self.old m }
-        ensures marks { marks.new ≡ marks_of self.new.plan self.new.state }
-    {
-        self.make_and_mark(marks, m);
-    }
-
-    /// Makes an allowed move, which is not Serve, of a kind that seldom changes a mark.
+    /// Makes an allowed Fall. It changes marks only where it bars a Launch.
     #[inline(always)]
-    fn make_seldom_marked(&mut self, marks: &mut Marks, m: Move)
+    fn make_fall(&mut self, marks: &mut Marks, i: u32)
         requires facts { IsProcessor self.old.plan self.old.state }
-        requires allowed { row_bar self.old.plan self.old.state m ≡ None }
-        requires count { m ≡ mv.Leave → self.old.state.retired + 1 < 2 ^ 64 }
-        requires other { m ≢ mv.Serve }
+        requires allowed { row_bar self.old.plan self.old.state (mv.Fall i) ≡ None }
         requires marks { marks.old ≡ marks_of self.old.plan self.old.state }
-        ensures processor { self.new ≡ after_move self.old m }
+        ensures processor { self.new ≡ after_move self.old (mv.Fall i) }
         ensures marks { marks.new ≡ marks_of self.new.plan self.new.state }
     {
-        let keeps = self.keeps_marks(*marks, m);
+        let keeps = self.keeps_marks(*marks, Move::Fall(i));
         if keeps {
-            self.make_inside(m);
+            self.fall(i);
         } else {
-            self.make_rarely(marks, m);
+            self.make_beside_launch(marks, Move::Fall(i));
         }
     }
 
-    /// Makes an allowed move, which is not Serve, marks the stages that it touched unless their marks stay as they
-    /// were, and returns what is seen of it.
+    /// Makes an allowed Emit. It changes marks only where it bars a Launch.
     #[inline(always)]
-    fn make_and_mark_changes(&mut self, marks: &mut Marks, m: Move) -> Event
+    fn make_emit(&mut self, marks: &mut Marks)
         requires facts { IsProcessor self.old.plan self.old.state }
-        requires allowed { row_bar self.old.plan self.old.state m ≡ None }
-        requires count { m ≡ mv.Leave → self.old.state.retired + 1 < 2 ^ 64 }
-        requires other { m ≢ mv.Serve }
+        requires allowed { row_bar self.old.plan self.old.state mv.Emit ≡ None }
         requires marks { marks.old ≡ marks_of self.old.plan self.old.state }
-        ensures processor { self.new ≡ after_move self.old m }
-        ensures event { IsEvent self.old.plan self.old.state m result }
+        ensures processor { self.new ≡ after_move self.old mv.Emit }
         ensures marks { marks.new ≡ marks_of self.new.plan self.new.state }
     {
-        let keeps = self.keeps_marks(*marks, m);
-        let touched = self.touched(m);
-        let event = self.make_inside(m);
+        let keeps = self.keeps_marks(*marks, Move::Emit);
         if keeps {
-            return event;
+            self.emit();
+        } else {
+            self.make_beside_launch(marks, Move::Emit);
         }
-        self.remark(marks, touched);
-        event
     }
 
-    /// Makes an allowed Launch.
-    // It is rare, so that it stays a call; so do the other moves at the sidings.
+    /// Makes an allowed Launch, and marks the stages that it touched.
     #[inline(never)]
     fn make_launch(&mut self, marks: &mut Marks, i: u32)
         requires facts { IsProcessor self.old.plan self.old.state }
@@ -102,10 +141,12 @@ impl Processor {
         ensures processor { self.new ≡ after_move self.old (mv.Launch i) }
         ensures marks { marks.new ≡ marks_of self.new.plan self.new.state }
     {
-        self.make_and_mark(marks, Move::Launch(i));
+        let touched = self.touched(Move::Launch(i));
+        self.launch(i);
+        self.remark(marks, touched);
     }
 
-    /// Makes an allowed Slide.
+    /// Makes an allowed Slide, and marks the stages that it touched.
     #[inline(never)]
     fn make_slide(&mut self, marks: &mut Marks, k: u32, c: u32)
         requires facts { IsProcessor self.old.plan self.old.state }
@@ -114,10 +155,12 @@ impl Processor {
         ensures processor { self.new ≡ after_move self.old (mv.Slide k c) }
         ensures marks { marks.new ≡ marks_of self.new.plan self.new.state }
     {
-        self.make_and_mark(marks, Move::Slide(k, c));
+        let touched = self.touched(Move::Slide(k, c));
+        self.slide(k, c);
+        self.remark(marks, touched);
     }
 
-    /// Makes an allowed Access.
+    /// Makes an allowed Access, and marks the stages that it touched.
     #[inline(never)]
     fn make_access(&mut self, marks: &mut Marks)
         requires facts { IsProcessor self.old.plan self.old.state }
@@ -126,10 +169,12 @@ impl Processor {
         ensures processor { self.new ≡ after_move self.old mv.Access }
         ensures marks { marks.new ≡ marks_of self.new.plan self.new.state }
     {
-        self.make_and_mark(marks, Move::Access);
+        let touched = self.touched(Move::Access);
+        self.access();
+        self.remark(marks, touched);
     }
 
-    /// Makes an allowed Recover.
+    /// Makes an allowed Recover, and marks the stages that it touched.
     #[inline(never)]
     fn make_recover(&mut self, marks: &mut Marks, i: u32)
         requires facts { IsProcessor self.old.plan self.old.state }
@@ -138,10 +183,40 @@ impl Processor {
         ensures processor { self.new ≡ after_move self.old (mv.Recover i) }
         ensures marks { marks.new ≡ marks_of self.new.plan self.new.state }
     {
-        self.make_and_mark(marks, Move::Recover(i));
+        let touched = self.touched(Move::Recover(i));
+        self.recover(i);
+        self.remark(marks, touched);
     }
 
-    /// Makes an allowed Climb. Of an instruction that has still work to do little is marked anew, of any other nothing.
+    /// Makes an allowed Leave, which changes no mark, and returns what is seen of it.
+    #[inline(always)]
+    fn make_leave(&mut self, marks: &Marks) -> Event
+        requires facts { IsProcessor self.old.plan self.old.state }
+        requires allowed { row_bar self.old.plan self.old.state mv.Leave ≡ None }
+        requires count { self.old.state.retired + 1 < 2 ^ 64 }
+        requires marks { marks.now ≡ marks_of self.old.plan self.old.state }
+        ensures processor { self.new ≡ after_move self.old mv.Leave }
+        ensures event { IsEvent self.old.plan self.old.state mv.Leave result }
+        ensures marks { marks.now ≡ marks_of self.new.plan self.new.state }
+    {
+        let _marks = marks;
+        self.leave()
+    }
+
+    /// Makes an allowed Exit, which changes no mark.
+    #[inline(always)]
+    fn make_exit(&mut self, marks: &Marks)
+        requires facts { IsProcessor self.old.plan self.old.state }
+        requires allowed { row_bar self.old.plan self.old.state mv.Exit ≡ None }
+        requires marks { marks.now ≡ marks_of self.old.plan self.old.state }
+        ensures processor { self.new ≡ after_move self.old mv.Exit }
+        ensures marks { marks.now ≡ marks_of self.new.plan self.new.state }
+    {
+        let _marks = marks;
+        self.exit();
+    }
+
+    /// Makes an allowed Climb. Of an instruction that has still work to do little is marked again, of any other nothing.
     #[inline(always)]
     fn make_climb(&mut self, marks: &mut Marks, i: u32)
         requires facts { IsProcessor self.old.plan self.old.state }
@@ -173,19 +248,19 @@ impl Processor {
         ensures marks { marks.new ≡ marks_of self.new.plan self.new.state }
     {
         match m {
+            Move::Issue(guess) => self.make_issue(marks, guess),
+            Move::Emit => self.make_emit(marks),
             Move::Climb(i) => self.make_climb(marks, i),
-            Move::Fall(i) => self.make_seldom_marked(marks, Move::Fall(i)),
-            Move::Emit => self.make_seldom_marked(marks, Move::Emit),
-            Move::Meet(i) => return self.make_and_mark_changes(marks, Move::Meet(i)),
-            Move::Leave => return self.make_and_mark_changes(marks, Move::Leave),
-            Move::Exit => return self.make_and_mark_changes(marks, Move::Exit),
-            Move::Issue(guess) => self.make_and_mark(marks, Move::Issue(guess)),
-            Move::Execute(i) => self.make_and_mark(marks, Move::Execute(i)),
-            Move::Send(i) => self.make_and_mark(marks, Move::Send(i)),
+            Move::Fall(i) => self.make_fall(marks, i),
+            Move::Meet(i) => return self.make_meet(marks, i),
+            Move::Execute(i) => self.make_execute(marks, i),
+            Move::Send(i) => self.make_send(marks, i),
             Move::Launch(i) => self.make_launch(marks, i),
             Move::Slide(k, c) => self.make_slide(marks, k, c),
             Move::Access => self.make_access(marks),
             Move::Recover(i) => self.make_recover(marks, i),
+            Move::Leave => return self.make_leave(&*marks),
+            Move::Exit => self.make_exit(&*marks),
             Move::Serve => unreachable!(),
         }
         Event::Plain

@@ -20,7 +20,7 @@ pub(crate) struct Touched {
 impl Touched {
     /// One stage alone.
     #[inline(always)]
-    fn alone(i: u32) -> Touched
+    pub(crate) fn alone(i: u32) -> Touched
         ensures { result ≡ record { low = i; high = i } }
     {
         Touched { low: i, high: i }

@@ -145,7 +145,7 @@ impl PackedCandidates {
         }
     }
 
-    /// The same, whether or not there are Slides. It is seldom that there are.
+    /// The same, whether or not there are Slides; mostly there are none.
     #[inline(never)]
     #[tactic(auto, unfolding(crate::specs::Packed::packed_with))]
     fn pick_by_parts(&self, i: usize) -> Move

@@ -38,13 +38,13 @@ unfoldable pub slides_on : List (List (Option Op)) → ℕ → Bool
 slides_on sidings j = cell_is_taken (numbered_cell sidings j) && cell_is_free (next_cell sidings j)
 
 -- there are at most eight sidings, each of at most eight cells
-pub record AreSmall (sidings : List (List (Option Op))) : Type 0 where
+pub record AreFewSidings (sidings : List (List (Option Op))) : Type 0 where
   pub few : length sidings ≤ 8
   pub short : (k : ℕ) → length (cells_in sidings k) ≤ 8
 
 -- one word has the numbers of the cells with an operation, the other those of the cells that have a next one
 pub record HaveWords (sidings : List (List (Option Op))) (taken inner : ℕ) : Type 0 where
-  pub small : AreSmall sidings
+  pub small : AreFewSidings sidings
   pub with_op : (j : ℕ) → has_bit taken j ≡ cell_is_taken (numbered_cell sidings j)
   pub with_next : (j : ℕ) → has_bit inner j ≡ is_some (next_cell sidings j)
 

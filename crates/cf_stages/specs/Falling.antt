@@ -45,8 +45,8 @@ AreSomeFalls cells w = (a : ℕ) × AreFalls cells a w
 abbrev pub AreResting : List Cell → ℕ → Type 0
 AreResting cells w = (k : ℕ) → has_bit w k ≡ rests cells (k + 1)
 
--- from the stage above which the word has those from which a result can fall, results fell in turn until none could; so many
--- of them, and the last from this stage, if any did
+-- from the stage above which the word has those from which a result can fall, results fell in turn until none could: this
+-- many, and the last from this stage, if any did
 pub record FallsOn (cells : List Cell) (w : ℕ) (new : List Cell) (count last : ℕ) : Type 0 where
   pub start : ℕ
   pub word : AreFalls cells start w
