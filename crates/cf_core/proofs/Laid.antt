@@ -14,7 +14,8 @@ use Rattle.cf_stages.proofs.Bits.{bit-other, bit-same, same-words, with_bit-lt}
 -- a bit is set or not, whatever it was before
 put_again : (w k : ℕ) → k < 32 → w < 2 ^ 32 → with_bit (with_bit w k false) k true ≡ with_bit w k true
 put_again w k small less = same-words (with_bit (with_bit w k false) k true) (with_bit w k true)
-    (with_bit-lt (with_bit w k false) k true small (with_bit-lt w k false small less)) (with_bit-lt w k true small less) (λ j below. bit j (nat_eq j k) refl below)
+    (with_bit-lt (with_bit w k false) k true small (with_bit-lt w k false small less)) (with_bit-lt w k true small less)
+    (λ j below. bit j (nat_eq j k) refl below)
   where
     bit : (j : ℕ) (here : Bool) → nat_eq j k ≡ here → j < 32 → has_bit (with_bit (with_bit w k false) k true) j ≡ has_bit (with_bit w k true) j
     bit j true e below =

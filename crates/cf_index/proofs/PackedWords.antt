@@ -172,7 +172,8 @@ passing_low p fits =
     behind xs e = ap (λ (l : List Move). xs ++ l) e
 
 pub passing_part : (p : Passing) (rest : ℕ) → FitsEight p →
-    packed_from 4 48 ((p.climb + 256 * (p.fall + 256 * (p.meet + 256 * (p.execute + 256 * (p.send + 256 * (p.launch + 256 * rest)))))) % 2 ^ 48) ≡ passing_moves p
+    packed_from 4 48 ((p.climb + 256 * (p.fall + 256 * (p.meet + 256 * (p.execute + 256 * (p.send + 256 * (p.launch + 256 * rest)))))) % 2 ^ 48)
+    ≡ passing_moves p
 passing_part p rest fits =
     let e : (p.climb + 256 * (p.fall + 256 * (p.meet + 256 * (p.execute + 256 * (p.send + 256 * (p.launch + 256 * rest)))))) % 2 ^ 48
     ≡ p.climb + 256 * (p.fall + 256 * (p.meet + 256 * (p.execute + 256 * (p.send + 256 * (p.launch + 256 * 0)))))

@@ -71,13 +71,15 @@ all_taken [] n e = rw e refl
 all_taken (p ∷ ps) zero e = absurd (omega arith)
 all_taken (p ∷ ps) (suc n) e = ap (λ (l : List SidingPlan). p ∷ l) (all_taken ps n (omega arith))
 
-pub empty-words : (plan : Plan) (k inner : ℕ) → IsAccepted plan → k ≡ length plan.sidings → ((j : ℕ) → has_bit inner j ≡ nat_lt (j % 8 + 1) (cells_of plan (j / 8))) →
+pub empty-words : (plan : Plan) (k inner : ℕ) → IsAccepted plan → k ≡ length plan.sidings →
+    ((j : ℕ) → has_bit inner j ≡ nat_lt (j % 8 + 1) (cells_of plan (j / 8))) →
     HaveWords (map empty (take k plan.sidings)) 0 inner
 unfolding cells_of
 empty-words plan k inner a e bits = rw (all_taken plan.sidings k e) record {
   small = record {
     few = let n = length-map plan.sidings empty in omega (arith, n, a.few_sidings);
-    short = λ m. let f = few_of plan m (nat_lt m (length plan.sidings)) a refl in rw (cells_from plan.sidings m, length-replicate (cells_at plan.sidings m) none) f;
+    short = λ m. let f = few_of plan m (nat_lt m (length plan.sidings)) a refl in
+        rw (cells_from plan.sidings m, length-replicate (cells_at plan.sidings m) none) f;
   };
   with_op = λ j. no_bits j ∙ sym (rw (cells_from plan.sidings (j / 8)) (none_taken (cells_at plan.sidings (j / 8)) (j % 8)));
   with_next = λ j. bits j ∙ sym (rw (cells_from plan.sidings (j / 8)) (one_there (cells_at plan.sidings (j / 8)) (j % 8 + 1)));

@@ -151,13 +151,15 @@ pub ruleset exit_free = (exit-free)
 pub ruleset access_free = (access-free)
 
 -- the cells from which operations can move on, where the processor goes on
-pub slide-bit : (plan : Plan) (s : State) (w : ℕ) → (not (is_some s.ending) && not s.failed) ≡ true → ((j : ℕ) → has_bit w j ≡ slides_on s.sidings j) → (j : ℕ) →
+pub slide-bit : (plan : Plan) (s : State) (w : ℕ) → (not (is_some s.ending) && not s.failed) ≡ true →
+    ((j : ℕ) → has_bit w j ≡ slides_on s.sidings j) → (j : ℕ) →
     has_bit w j ≡ is_allowed plan s (Slide (j / 8) (j % 8))
 unfolding slides_on
 slide-bit plan s w on bits j = bits j ∙ sym (allowed-is plan s (Slide (j / 8) (j % 8)) ∙ rw on (slide-free plan s (j / 8) (j % 8)))
 
 -- and where it does not
-pub slide-none : (plan : Plan) (s : State) → (not (is_some s.ending) && not s.failed) ≡ false → (j : ℕ) → has_bit 0 j ≡ is_allowed plan s (Slide (j / 8) (j % 8))
+pub slide-none : (plan : Plan) (s : State) → (not (is_some s.ending) && not s.failed) ≡ false → (j : ℕ) →
+    has_bit 0 j ≡ is_allowed plan s (Slide (j / 8) (j % 8))
 slide-none plan s off j = no_bits j ∙ sym (allowed-is plan s (Slide (j / 8) (j % 8)) ∙ rw off refl)
 
 pub ruleset sliding = (slide-bit, slide-none)

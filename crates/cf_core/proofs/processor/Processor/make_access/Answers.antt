@@ -6,13 +6,14 @@ use Rattle.cf_core.proofs.processor.Processor.make_access.Goals as goal
 
 pub remark-requires-clause-within : goal.remark-requires-clause-within
 remark-requires-clause-within c =
-    within-after c.args.self.now c.access.new.self (Access) c.touched-touched.result c.requires.facts c.requires.allowed c.access.ensures c.touched-touched.ensures
+    within-after c.args.self.now c.access.new.self (Access) c.touched-touched.result
+    c.requires.facts c.requires.allowed c.access.ensures c.touched-touched.ensures
 
 pub remark-requires-clause-facts : goal.remark-requires-clause-facts
 remark-requires-clause-facts c =
-    facts-after c.args.self.now c.access.new.self (Access) c.requires.facts c.requires.allowed c.access.ensures
+    facts-after c.args.self.now c.access.new.self Access c.requires.facts c.requires.allowed c.access.ensures
 
 pub returns-clause-marks : goal.returns-clause-marks
 returns-clause-marks c =
-    c.remark.ensures ∙ marks-after c.args.self.now c.access.new.self c.args.marks.now (Access) c.touched-touched.result c.requires.facts
+    c.remark.ensures ∙ marks-after c.args.self.now c.access.new.self c.args.marks.now Access c.touched-touched.result c.requires.facts
     c.requires.allowed c.access.ensures c.requires.marks c.touched-touched.ensures

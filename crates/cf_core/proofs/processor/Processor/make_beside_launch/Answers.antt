@@ -5,7 +5,8 @@ use Rattle.cf_core.proofs.processor.Processor.make_beside_launch.Goals as goal
 
 pub remark-requires-clause-within : goal.remark-requires-clause-within
 remark-requires-clause-within c =
-    within-after c.args.self.now c.make_inside.new.self c.args.m c.touched-touched.result c.requires.facts c.requires.allowed c.make_inside.ensures.processor c.touched-touched.ensures
+    within-after c.args.self.now c.make_inside.new.self c.args.m c.touched-touched.result
+    c.requires.facts c.requires.allowed c.make_inside.ensures.processor c.touched-touched.ensures
 
 pub remark-requires-clause-facts : goal.remark-requires-clause-facts
 remark-requires-clause-facts c =

@@ -8,7 +8,8 @@ use Rattle.cf_core.proofs.processor.Processor.make_execute.Goals as goal
 pub remark-requires-clause-within : goal.remark-requires-clause-within
 unfolding touched
 remark-requires-clause-within c =
-    within-after c.args.self.now c.execute.new.self (Execute c.args.i) c.alone-touched.result c.requires.facts c.requires.allowed c.execute.ensures c.alone-touched.ensures
+    within-after c.args.self.now c.execute.new.self (Execute c.args.i) c.alone-touched.result
+    c.requires.facts c.requires.allowed c.execute.ensures c.alone-touched.ensures
 
 pub remark-requires-clause-facts : goal.remark-requires-clause-facts
 remark-requires-clause-facts c =

@@ -6,7 +6,8 @@ use Rattle.cf_core.proofs.processor.Processor.make_launch.Goals as goal
 
 pub remark-requires-clause-within : goal.remark-requires-clause-within
 remark-requires-clause-within c =
-    within-after c.args.self.now c.launch.new.self (Launch c.args.i) c.touched-touched.result c.requires.facts c.requires.allowed c.launch.ensures c.touched-touched.ensures
+    within-after c.args.self.now c.launch.new.self (Launch c.args.i) c.touched-touched.result
+    c.requires.facts c.requires.allowed c.launch.ensures c.touched-touched.ensures
 
 pub remark-requires-clause-facts : goal.remark-requires-clause-facts
 remark-requires-clause-facts c =

@@ -6,7 +6,8 @@ use Rattle.cf_core.proofs.processor.Processor.make_slide.Goals as goal
 
 pub remark-requires-clause-within : goal.remark-requires-clause-within
 remark-requires-clause-within c =
-    within-after c.args.self.now c.slide.new.self (Slide c.args.k c.args.c) c.touched-touched.result c.requires.facts c.requires.allowed c.slide.ensures c.touched-touched.ensures
+    within-after c.args.self.now c.slide.new.self (Slide c.args.k c.args.c) c.touched-touched.result
+    c.requires.facts c.requires.allowed c.slide.ensures c.touched-touched.ensures
 
 pub remark-requires-clause-facts : goal.remark-requires-clause-facts
 remark-requires-clause-facts c =

@@ -1,5 +1,5 @@
 -- The bit words agree with the stages whatever instruction is returned.
-use Rattle.std.proofs.Common.{◌≡◌, ◌∙◌, ℕ, ◌<◌, ◌≤◌, List, Some, length, refl, sym, ap, subst, arith}
+use Rattle.std.proofs.Common.{◌∙◌, List, refl, sym, ap, subst, arith}
 use Rattle.std.specs.Prelude.{IsSome}
 use Rattle.cf_bind.specs.declared.cell.Cell.{Cell}
 use Rattle.cf_semantics.specs.moves.Moves.{with_passenger}

@@ -12,7 +12,8 @@ returns-then-begin-time-clause-first c =
 
 pub loop-mv-preserved : goal.loop-mv-preserved
 loop-mv-preserved c =
-    let past : c.loop-mv.kept.time ≤ begin_time c.args.self.now c.in-Some.mv.now = omega (arith, c.reach_any-begin.ensures, c.time-time.ensures, c.if-begin-time.false)
+    let past : c.loop-mv.kept.time ≤ begin_time c.args.self.now c.in-Some.mv.now =
+    omega (arith, c.reach_any-begin.ensures, c.time-time.ensures, c.if-begin-time.false)
     in (
       subst (AreDue c.args.core.now.plan (clocked c.args.self.now c.args.core.now.state)) (sym c.skip.ensures)
           (due_skipped c.args.core.now.plan (clocked c.args.self.now c.args.core.now.state) c.loop-mv.kept c.in-Some.mv.now c.loop-mv.invariant.0
