@@ -234,7 +234,8 @@ impl Processor {
     }
 
     /// Makes an allowed move, which is not Serve, keeps the marks up to date and returns what is seen of it.
-    // Each arm passes on a move of a known kind, so that only what this kind needs remains of the general functions.
+    // Each arm is a function of its kind: one function for all with the kind passed on would be inlined once for each arm,
+    // with all that any kind needs.
     #[inline(always)]
     #[tactic(auto, unfolding(cf_semantics::specs::moves::Bars::bar))]
     pub(crate) fn make_marked(&mut self, marks: &mut Marks, m: Move) -> Event
