@@ -21,7 +21,7 @@ use cf_semantics::Event;
 
 impl Processor {
     /// Makes an allowed Issue, and marks the lowest stage.
-    #[inline(always)]
+    #[inline(never)]
     fn make_issue(&mut self, marks: &mut Marks, guess: Guess)
         requires facts { IsProcessor self.old.plan self.old.state }
         requires allowed { row_bar self.old.plan self.old.state (mv.Issue guess) ≡ None }
@@ -35,7 +35,7 @@ impl Processor {
     }
 
     /// Makes an allowed Execute, and marks its stage.
-    #[inline(always)]
+    #[inline(never)]
     fn make_execute(&mut self, marks: &mut Marks, i: u32)
         requires facts { IsProcessor self.old.plan self.old.state }
         requires allowed { row_bar self.old.plan self.old.state (mv.Execute i) ≡ None }
@@ -49,7 +49,7 @@ impl Processor {
     }
 
     /// Makes an allowed Send, and marks its stage.
-    #[inline(always)]
+    #[inline(never)]
     fn make_send(&mut self, marks: &mut Marks, i: u32)
         requires facts { IsProcessor self.old.plan self.old.state }
         requires allowed { row_bar self.old.plan self.old.state (mv.Send i) ≡ None }
@@ -217,7 +217,7 @@ impl Processor {
     }
 
     /// Makes an allowed Climb. Of an instruction that has still work to do little is marked again, of any other nothing.
-    #[inline(always)]
+    #[inline(never)]
     fn make_climb(&mut self, marks: &mut Marks, i: u32)
         requires facts { IsProcessor self.old.plan self.old.state }
         requires allowed { first_bar self.old.plan self.old.state (mv.Climb i) ≡ None }
@@ -235,7 +235,8 @@ impl Processor {
 
     /// Makes an allowed move, which is not Serve, keeps the marks up to date and returns what is seen of it.
     // Each arm is a function of its kind: one function for all with the kind passed on would be inlined once for each arm,
-    // with all that any kind needs.
+    // with all that any kind needs. The kinds that need much and are made rarely are calls, since a function that grows too
+    // large is not inlined.
     #[inline(always)]
     #[tactic(auto, unfolding(cf_semantics::specs::moves::Bars::bar))]
     pub(crate) fn make_marked(&mut self, marks: &mut Marks, m: Move) -> Event
