@@ -137,10 +137,8 @@ impl Processor {
         ensures climbs { ClimbsTo self.now i result }
         ensures cells { climbed self.now i (result - i) ≡ with_cells self.now (cells_lifted self.now.state.cells i result) }
     {
-        match self.stages.passenger(i) {
-            Some(passenger) => self.first_block(passenger, work, i),
-            None => unreachable!(),
-        }
+        let passenger = self.stages.passenger_there(i);
+        self.first_block(passenger, work, i)
     }
 
     /// Lets the instruction of the stage climb as far as it can, and answers the stage that it comes to.

@@ -109,9 +109,7 @@ impl Processor {
         ensures { marks.new ≡ remarked_by self.now.plan self.now.state marks.old (record { low = i; high = j }) }
     {
         self.know_stages();
-        let Some(passenger) = self.stages.passenger(j) else {
-            unreachable!();
-        };
+        let passenger = self.stages.passenger_there(j);
         let station = self.station(class);
         match station.siding {
             Some(site) => self.mark_siding_climbed(marks, passenger, station.units, site, i, j),

@@ -1,4 +1,4 @@
--- `==` decides whether two instructions or results in the pipes are the same.
+-- `==` decides whether two instructions or results in the pipes, or the contents of two stages, are the same.
 use Rattle.std.proofs.Common.{◌≡◌, Bool, Option, Some, None, arith, refl, ap}
 use Rattle.std.proofs.lemmas.Bool.Decides.{nat_tests, Decides-and, Decides-eqb}
 use Rattle.std.specs.Bool.{Decides}
@@ -8,6 +8,8 @@ use Rattle.rv_inst.specs.declared.instruction.Instr.{Instr}
 use Rattle.rv_inst.specs.contracts.instruction.InstrPartialEq.TheImpl.{eq-value as instr_eq}
 use Rattle.cf_bind.specs.declared.binding.Binding.{Binding}
 use Rattle.cf_bind.specs.contracts.binding.BindingPartialEq.TheImpl.{eq-value as binding_eq}
+use Rattle.cf_bind.specs.declared.cell.Cell.{Cell}
+use Rattle.cf_bind.specs.contracts.cell.CellPartialEq.TheImpl.{eq-value as cell_eq}
 use Rattle.cf_bind.specs.declared.packet.Packet.{Packet}
 use Rattle.cf_bind.specs.contracts.packet.PacketPartialEq.TheImpl.{eq-value as packet_eq}
 use Rattle.cf_bind.specs.declared.passenger.Guess.{Guess}
@@ -78,4 +80,14 @@ passenger_decides a b =
             dead = f.1.1.1.1.1.1.1.1.1.1.1.1 i;
           },
       λ e. d.1 (rw e (refl, (refl, (refl, (refl, (refl, (refl, (refl, (refl, (refl, (refl, (refl, (refl, refl))))))))))))),
+    )
+
+-- the contents of two stages
+pub cell_decides : (a b : Cell) → Decides (cell_eq.it a b) (a ≡ b)
+cell_decides a b =
+    let d = Decides-and _ _ (option_decides passenger_decides a.passenger b.passenger)
+    (Decides-and _ _ (option_decides packet_decides a.packet b.packet) (booleans_Decides a.met b.met)) in (
+      λ t. let f = d.0 t in
+          λ i. record { passenger = f.0 i; packet = f.1.0 i; met = f.1.1 i },
+      λ e. d.1 (rw e (refl, (refl, refl))),
     )

@@ -1,5 +1,5 @@
 -- Empty stages.
-use Rattle.std.proofs.Common.{◌≡◌, ◌∙◌, ℕ, zero, suc, ◌<◌, ◌≤◌, List, [], ◌∷◌, All, Option, None, Bool, true, false, length, replicate, get_or, refl, sym, ap, subst, arith}
+use Rattle.std.proofs.Common.{◌≡◌, ◌∙◌, ℕ, zero, suc, ◌-◌, ◌<◌, ◌≤◌, ◌++◌, List, [], ◌∷◌, take, All, Option, None, Bool, true, false, length, replicate, get_or, refl, sym, ap, subst, arith}
 use Rattle.std.specs.Prelude.{not, ◌&&◌, nat_eq}
 use Rattle.std.specs.List.{list_any}
 use Rattle.std.proofs.lemmas.List.{get_or-replicate, length-replicate}
@@ -16,7 +16,7 @@ use Rattle.cf_semantics.specs.state.Drained.{is_occupied}
 use Rattle.cf_semantics.specs.state.State.{cell_at}
 use Rattle.cf_semantics.specs.runs.Runs.{empty_cell}
 use Rattle.cf_stages.specs.Changes.{IsCell}
-use Rattle.cf_stages.specs.Parts.{AreParts, cells_from, all_cells}
+use Rattle.cf_stages.specs.Parts.{AreParts, AreStages, all_cells, cells_from, held_from, stages_of}
 use Rattle.cf_stages.specs.Words.{word_of, word_where, passenger_word, packet_word}
 use Rattle.cf_stages.proofs.Bits.{word-agrees, word-bit}
 use Rattle.cf_stages.proofs.Parts.{length-cells}
@@ -46,11 +46,8 @@ word_empty test n e = sym (word-agrees (λ i. on (cell_at (replicate n empty_cel
 all_empty : (n : ℕ) → All IsCell (replicate n empty_cell)
 all_empty n = λ k d within. rw (get_or-replicate n k empty_cell d (rw length-replicate at within)) (λ g. absurd (cc))
 
-pub empty-cells : (n : ℕ) → all_cells (replicate n None) (replicate n None) 0 ≡ replicate n empty_cell
-empty-cells n = empty_cells 0 n
-
-pub empty-parts : (n : ℕ) → 2 ≤ n → n ≤ 32 → AreParts (replicate n None) (replicate n None) 0 0 0
-empty-parts n least most =
+empty_parts : (n : ℕ) → 2 ≤ n → n ≤ 32 → AreParts (replicate n None) (replicate n None) 0 0 0
+empty_parts n least most =
     let e = sym (empty_cells 0 n) in
     let a = length-replicate {A = Option Passenger} n None in
     let b = length-replicate {A = Option Packet} n None in
@@ -64,7 +61,28 @@ empty-parts n least most =
       met_bits = word_empty (λ c. c.met) n refl ∙ ap (word_where (λ c. c.met)) e;
     }
 
-pub ruleset emptying = (empty-cells, empty-parts)
+-- without a bit the entries hold nothing
+none_held : {X : Type 0} (k n : ℕ) (x : X) → held_from k 0 (replicate n x) ≡ replicate n None
+unfolding held_from
+none_held k zero x = refl
+none_held k (suc n) x = rw (no_bits k, none_held (suc k) n x) refl
+
+pub empty-stages : (n : ℕ) (p : Passenger) (q : Packet) → stages_of (replicate n p) (replicate n q) 0 0 0 ≡ replicate n empty_cell
+empty-stages n p q = rw (none_held 0 n p, none_held 0 n q) (empty_cells 0 n)
+
+pub empty-are : (ps : List Passenger) (qs : List Packet) (n : ℕ) (p : Passenger) (q : Packet) → 2 ≤ n → n ≤ 32 → ps ≡ replicate n p → qs ≡ replicate n q →
+    AreStages ps qs 0 0 0
+empty-are ps qs n p q least most e f = rw (e, f, none_held 0 n p, none_held 0 n q) (empty_parts n least most)
+
+-- what an empty list is filled with
+taken_none : {X : Type 0} (n : ℕ) → ◌≡◌ {A = List X} (take n []) []
+taken_none zero = refl
+taken_none (suc n) = refl
+
+pub filled : {X : Type 0} (n m : ℕ) (xs ys : List X) (x : X) → xs ≡ [] → m ≡ 0 → ys ≡ take n xs ++ replicate (n - m) x → ys ≡ replicate n x
+filled {X = X} n m xs ys x none least e = let z : n - 0 ≡ n = omega arith in e ∙ rw (none, least, z, taken_none {X = X} n) refl
+
+pub ruleset emptying = (empty-stages, empty-are)
 
 -- if a word is 0, its test holds nowhere
 none_at : (test : Cell → Bool) (cells : List Cell) (k : ℕ) (d : Cell) → length cells ≤ 32 → word_where test cells ≡ 0 → k < length cells →

@@ -186,7 +186,7 @@ pub ruleset coming_and_going = (passenger-placed, passenger-parts)
 pub ruleset replacing = (packet-placed, packet-parts)
 
 -- what was read of a stage
-at_index : {A : Type 0} (xs : List A) (k : ℕ) (x : A) → k < length xs → x ≡ slice_index_or xs k x → slice_get xs k ≡ Some x
+pub at_index : {A : Type 0} (xs : List A) (k : ℕ) (x : A) → k < length xs → x ≡ slice_index_or xs k x → slice_get xs k ≡ Some x
 at_index xs k x within e = slice_get-get_or xs k x within ∙ ap Some (sym e)
 
 pub cell-read : (ps : List (Option Passenger)) (qs : List (Option Packet)) (riding flying met i : ℕ) (p : Option Passenger) (q : Option Packet) (b : Bool) →

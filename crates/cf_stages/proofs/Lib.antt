@@ -3,6 +3,8 @@ pub mod Carries
 pub mod Cells
 pub mod Deciding
 pub mod Empty
+pub mod Entries
+pub mod Held
 pub mod InTurn
 pub mod Kept
 pub mod Lifted
@@ -13,3 +15,4 @@ pub mod Parts
 pub mod Remaining
 pub mod Sameness
 pub mod Returned
+pub mod Written

@@ -2,7 +2,6 @@
 -- below.
 use Rattle.std.proofs.Common.{◌≡◌, ◌∙◌, ℕ, suc, ◌-◌, ◌^◌, ◌<◌, ◌≤◌, ◌≢◌, All, List, Option, Some, None, Bool, true, false, IsTrue, length, length-set, refl, sym, ap, subst, arith}
 use Rattle.std.specs.Prelude.{IsNone, IsSome, slice_index_or, slice_set}
-use Rattle.std.proofs.lemmas.List.{set_comm}
 use Rattle.std.proofs.lemmas.Option.{slice_get-get_or}
 use Rattle.cf_bind.specs.declared.cell.Cell.{Cell}
 use Rattle.cf_bind.specs.declared.packet.Packet.{Packet}
@@ -16,7 +15,7 @@ use Rattle.cf_stages.specs.Words.{with_bit, word_where}
 use Rattle.cf_stages.proofs.Bits.{bit-other, with_bit-lt, word-bit, word-small}
 use Rattle.cf_stages.proofs.Carries.{bit-kept}
 use Rattle.cf_stages.proofs.Cells.{cell-in}
-use Rattle.cf_stages.proofs.Kept.{count-read, few-read, passenger-parts, passenger-placed, passenger-read, packet-parts, packet-placed, packet-read, pipes-read}
+use Rattle.cf_stages.proofs.Kept.{count-read, passenger-parts, passenger-placed, passenger-read, packet-parts, packet-placed, packet-read}
 use Rattle.cf_stages.proofs.Neighbours.{lifted-is, fallen-is, falls-low, falls-result, falls-room, falls-within}
 
 -- what was read does not depend on the value that is used if there is no entry
@@ -107,11 +106,6 @@ lifts ps qs riding flying met i j h low order within rides room =
           (rw h.met_bits (word-small _ (length cells) (omega (arith, h.most)))) clear;
     }
 
--- the two entries are changed in either order
-swapped : (ps : List (Option Passenger)) (i j : ℕ) (p : Option Passenger) → 0 < i → i < j → slice_set (slice_set ps (j - 1) p) (i - 1) None
-    ≡ slice_set (slice_set ps (i - 1) None) (j - 1) p
-swapped ps i j p low order = set_comm ps (j - 1) (i - 1) p None (λ g. absurd (omega arith))
-
 -- the pipes and the words once the instruction has left its stage
 left_parts : (ps : List (Option Passenger)) (qs : List (Option Packet)) (riding flying met i j : ℕ) → AreParts ps qs riding flying met →
     Lifts ps qs met i j → AreParts (slice_set ps (i - 1) None) qs (with_bit riding (i - 1) false) flying (with_bit met (i - 1) false)
@@ -119,25 +113,22 @@ left_parts ps qs riding flying met i j h l =
     passenger-parts ps qs riding flying met (with_bit riding (i - 1) false) (with_bit met (i - 1) false) i None false h l.low
     (omega (arith, l.order, l.within)) refl refl refl
 
-pub lifted-parts : (ps ps1 : List (Option Passenger)) (qs : List (Option Packet)) (riding flying met riding1 met1 i j : ℕ) → AreParts ps qs riding flying met →
+pub lifted-parts : (ps : List (Option Passenger)) (qs : List (Option Packet)) (riding flying met riding1 met1 i j : ℕ) → AreParts ps qs riding flying met →
     0 < i → i < j → j ≤ length ps → IsSome (passenger_at (all_cells ps qs met) i) → IsNone (passenger_at (all_cells ps qs met) j) →
-    ps1 ≡ slice_set ps (j - 1) (slice_index_or ps (i - 1) None) → riding1 ≡ with_bit (with_bit riding (i - 1) false) (j - 1) true →
-    met1 ≡ with_bit met (i - 1) false →
-    AreParts (slice_set ps1 (i - 1) None) qs riding1 flying met1
-lifted-parts ps ps1 qs riding flying met riding1 met1 i j h low order within rides room e r m =
+    riding1 ≡ with_bit (with_bit riding (i - 1) false) (j - 1) true → met1 ≡ with_bit met (i - 1) false →
+    AreParts (slice_set (slice_set ps (i - 1) None) (j - 1) (slice_index_or ps (i - 1) None)) qs riding1 flying met1
+lifted-parts ps qs riding flying met riding1 met1 i j h low order within rides room r m =
     let l = lifts ps qs riding flying met i j h low order within rides room in
     let empty : Option Passenger = None in
     let long = length-set ps (i - 1) empty in
-    let two = passenger-parts (slice_set ps (i - 1) None) qs (with_bit riding (i - 1) false) flying (with_bit met (i - 1) false) riding1 met1 j
+    passenger-parts (slice_set ps (i - 1) None) qs (with_bit riding (i - 1) false) flying (with_bit met (i - 1) false) riding1 met1 j
     (slice_index_or ps (i - 1) None) true (left_parts ps qs riding flying met i j h l) (omega arith) (omega arith) l.rides r (m ∙ sym l.unmet)
-    in
-    rw (e, swapped ps i j (slice_index_or ps (i - 1) None) low order) two
 
-pub lifted-placed : (ps ps1 : List (Option Passenger)) (qs : List (Option Packet)) (riding flying met met1 i j : ℕ) → AreParts ps qs riding flying met →
+pub lifted-placed : (ps : List (Option Passenger)) (qs : List (Option Packet)) (riding flying met met1 i j : ℕ) → AreParts ps qs riding flying met →
     0 < i → i < j → j ≤ length ps → IsSome (passenger_at (all_cells ps qs met) i) → IsNone (passenger_at (all_cells ps qs met) j) →
-    ps1 ≡ slice_set ps (j - 1) (slice_index_or ps (i - 1) None) → met1 ≡ with_bit met (i - 1) false →
-    all_cells (slice_set ps1 (i - 1) None) qs met1 ≡ cells_lifted (all_cells ps qs met) i j
-lifted-placed ps ps1 qs riding flying met met1 i j h low order within rides room e m =
+    met1 ≡ with_bit met (i - 1) false →
+    all_cells (slice_set (slice_set ps (i - 1) None) (j - 1) (slice_index_or ps (i - 1) None)) qs met1 ≡ cells_lifted (all_cells ps qs met) i j
+lifted-placed ps qs riding flying met met1 i j h low order within rides room m =
     let l = lifts ps qs riding flying met i j h low order within rides room in
     let q = slice_index_or ps (i - 1) None in
     let empty : Option Passenger = None in
@@ -146,13 +137,9 @@ lifted-placed ps ps1 qs riding flying met met1 i j h low order within rides room
     let first = passenger-placed ps qs riding flying met (with_bit met (i - 1) false) i None h low (omega arith) refl in
     let second = passenger-placed (slice_set ps (i - 1) None) qs (with_bit riding (i - 1) false) flying (with_bit met (i - 1) false) met1 j q
     (left_parts ps qs riding flying met i j h l) (omega arith) (omega arith) (m ∙ sym l.unmet) in
-    ap (λ (xs : List (Option Passenger)). all_cells (slice_set xs (i - 1) None) qs met1) e
-    ∙ ap (λ (xs : List (Option Passenger)). all_cells xs qs met1) (swapped ps i j q low order)
-    ∙ second
+    second
     ∙ ap (λ (cells : List Cell). changed cells j (with_new_passenger q)) first
     ∙ lifted-is (all_cells ps qs met) i j q low order (omega arith) l.is
-
-pub ruleset lifting = (lifted-parts, lifted-placed, count-read, few-read)
 
 -- the result is in the stage below, and none is left in the stage where it was
 record Drops (ps : List (Option Passenger)) (qs : List (Option Packet)) (met i : ℕ) (q : Option Packet) : Type 0 where
@@ -201,17 +188,11 @@ sinks ps qs riding flying met i h c =
           (rw h.met_bits (word-small _ (length cells) (omega (arith, h.most)))) (bit-of (λ d. d.met) cells met (i - 2) h.met_bits (omega arith) ∙ none);
     }
 
-lowered : (qs : List (Option Packet)) (i : ℕ) (q : Option Packet) → 1 < i → slice_set (slice_set qs (i - 2) q) (i - 1) None
-    ≡ slice_set (slice_set qs (i - 1) None) (i - 1 - 1) q
-lowered qs i q low =
-    let j : i - 1 - 1 ≡ i - 2 = omega arith in
-    rw j (set_comm qs (i - 2) (i - 1) q None (λ g. absurd (omega arith)))
-
 pub dropped-parts : (ps : List (Option Passenger)) (qs : List (Option Packet)) (riding flying met flying1 met1 i : ℕ) (q : Option Packet) →
     AreParts ps qs riding flying met → IsTrue (falls (all_cells ps qs met) i) →
     q ≡ slice_index_or qs (i - 1) q → flying1 ≡ with_bit (with_bit flying (i - 1) false) (i - 2) true →
     met1 ≡ with_bit met (i - 1) false →
-    AreParts ps (slice_set (slice_set qs (i - 2) q) (i - 1) None) riding flying1 met1
+    AreParts ps (slice_set (slice_set qs (i - 1) None) (i - 2) q) riding flying1 met1
 dropped-parts ps qs riding flying met flying1 met1 i q h c e f m =
     let l = drops ps qs riding flying met i q h c e in
     let j : i - 1 - 1 ≡ i - 2 = omega (arith, l.low) in
@@ -220,12 +201,12 @@ dropped-parts ps qs riding flying met flying1 met1 i q h c e f m =
     (omega (arith, l.low)) l.within (λ g. absurd (cc)) (λ g. absurd (cc)) refl refl refl in
     let two = packet-parts ps (slice_set qs (i - 1) None) riding (with_bit flying (i - 1) false) (with_bit met (i - 1) false) flying1 met1
     (i - 1) q false true one (omega (arith, l.low)) (omega (arith, l.within)) (λ g. absurd (cc)) (λ g. absurd (cc)) l.flies (rw j f) still in
-    rw (lowered qs i q l.low) two
+    rw j at two
 
 pub dropped-is : (ps : List (Option Passenger)) (qs : List (Option Packet)) (riding flying met met1 i : ℕ) (q : Option Packet) →
     AreParts ps qs riding flying met → IsTrue (falls (all_cells ps qs met) i) →
     q ≡ slice_index_or qs (i - 1) q → met1 ≡ with_bit met (i - 1) false →
-    all_cells ps (slice_set (slice_set qs (i - 2) q) (i - 1) None) met1 ≡ cells_fallen (all_cells ps qs met) i
+    all_cells ps (slice_set (slice_set qs (i - 1) None) (i - 2) q) met1 ≡ cells_fallen (all_cells ps qs met) i
 dropped-is ps qs riding flying met met1 i q h c e m =
     let l = drops ps qs riding flying met i q h c e in
     let j : i - 1 - 1 ≡ i - 2 = omega (arith, l.low) in
@@ -235,7 +216,7 @@ dropped-is ps qs riding flying met met1 i q h c e m =
     let first = packet-placed ps qs riding flying met (with_bit met (i - 1) false) i None false h (omega (arith, l.low)) l.within refl in
     let second = packet-placed ps (slice_set qs (i - 1) None) riding (with_bit flying (i - 1) false) (with_bit met (i - 1) false) met1 (i - 1) q false one
     (omega (arith, l.low)) (omega (arith, l.within)) still in
-    ap (λ (xs : List (Option Packet)). all_cells ps xs met1) (lowered qs i q l.low)
+    ap (λ (k : ℕ). all_cells ps (slice_set (slice_set qs (i - 1) None) k q) met1) (sym j)
     ∙ second
     ∙ ap (λ (cells : List Cell). changed cells (i - 1) (with_place q false)) first
     ∙ fallen-is (all_cells ps qs met) i q c l.is
@@ -248,5 +229,3 @@ sinking-set ps qs riding flying met i h c = (sinks ps qs riding flying met i h c
 pub sinking-clear : (ps : List (Option Passenger)) (qs : List (Option Packet)) (riding flying met i : ℕ) → AreParts ps qs riding flying met →
     IsTrue (falls (all_cells ps qs met) i) → has_bit flying (i - 2) ≡ false
 sinking-clear ps qs riding flying met i h c = (sinks ps qs riding flying met i h c).clear
-
-pub ruleset dropping = (dropped-parts, dropped-is, sinking-set, sinking-clear, falls-low, falls-within, count-read, pipes-read, few-read)

@@ -70,6 +70,20 @@ rider-there cells i full = by (cell_at cells i) full
         some_of None h = absurd (cc)
         some_of (Some p) h = refl
 
+pub result-there : (cells : List Cell) (i : ℕ) → IsTrue (is_full_at cells i) → IsSome (packet_at cells i)
+result-there cells i full = by (cell_at cells i) full
+  where
+    by : (o : Option Cell) → IsTrue (on o false is_full) → IsSome (on o None (λ c. c.packet))
+    by None full = absurd (cc)
+    by (Some b) full = some_of b.passenger b.packet b.met full
+      where
+        some_of : (p : Option Passenger) (q : Option Packet) (met : Bool) → IsTrue (is_some p && is_some q && not met) → IsSome q
+        some_of None q met h = absurd (cc)
+        some_of (Some p) None met h = absurd (cc)
+        some_of (Some p) (Some k) met h = refl
+
+pub ruleset meeting_ones = (rider-there, result-there)
+
 pub none-there : (o : Option Passenger) → o ≡ None → IsSome o → ⊥
 none-there None e some = absurd (cc)
 none-there (Some p) e some = absurd (cc)

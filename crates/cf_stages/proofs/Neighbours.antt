@@ -9,6 +9,7 @@ use Rattle.cf_semantics.specs.state.State.{cell_at, put_cell}
 use Rattle.cf_semantics.specs.moves.Moves.{without_passenger, without_packet}
 use Rattle.cf_stages.specs.Changes.{can_climb, can_fall, changed, passenger_at, packet_at, cells_lifted, cells_fallen, climbs, falls, with_new_passenger, with_new_packet}
 use Rattle.cf_stages.specs.Parts.{with_place}
+use Rattle.cf_stages.proofs.Cells.{length-put}
 use Rattle.cf_stages.proofs.Parts.{cell-put-other, stage-low, stage-high, stood}
 
 -- the contents of two different stages are changed
@@ -104,6 +105,12 @@ falls-low cells i h = let r = falls_from cells i h in let e = stage-low cells (i
 pub falls-within : (cells : List Cell) (i : ℕ) → IsTrue (falls cells i) → i ≤ length cells
 falls-within cells i h = let r = falls_from cells i h in stage-high cells i r.from r.here
 
+-- as many stages as before
+pub fallen-count : (cells : List Cell) (i : ℕ) → IsTrue (falls cells i) → length (cells_fallen cells i) ≡ length cells
+fallen-count cells i h =
+    let r = falls_from cells i h in
+    rw (fallen_there cells i r.from r.to r.here r.there) (length-put (put_cell cells i (without_packet r.from)) (i - 1) _ ∙ length-put cells i _)
+
 pub falls-result : (cells : List Cell) (i : ℕ) → IsTrue (falls cells i) → IsSome (packet_at cells i)
 unfolding falls
 falls-result cells i h = result_by (cell_at cells i) (cell_at cells (i - 1)) h
@@ -131,4 +138,4 @@ fallen-is cells i q h e =
     rw flies (two_changed cells i (i - 1) r.from r.to (with_place None false) (with_place r.from.packet false) (λ g. absurd (omega arith)) r.here r.there
     ∙ sym (fallen_there cells i r.from r.to r.here r.there))
 
-pub ruleset falling = (falls-low, falls-within, fallen-is)
+pub ruleset falling = (falls-low, falls-within, fallen-is, fallen-count)

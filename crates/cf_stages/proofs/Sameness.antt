@@ -1,37 +1,32 @@
--- The stages determine the pipes and the words that they are made of.
-use Rattle.std.proofs.Common.{◌≡◌, ◌∙◌, ℕ, suc, List, [], ◌∷◌, Option, length, map, refl, sym, ap, arith}
+-- Two lists of stages are the same if each stage has the same contents in both.
+use Rattle.std.proofs.Common.{◌≡◌, ◌∙◌, ℕ, suc, ◌+◌, ◌<◌, inl, inr, List, [], ◌∷◌, Some, length, refl, sym, ap, arith}
+use Rattle.std.specs.Prelude.{slice_get}
+use Rattle.std.proofs.Math.Nat.{eq-or-lt_of_le}
 use Rattle.cf_bind.specs.declared.cell.Cell.{Cell}
-use Rattle.cf_bind.specs.declared.packet.Packet.{Packet}
-use Rattle.cf_bind.specs.declared.passenger.Passenger.{Passenger}
-use Rattle.cf_stages.specs.Parts.{AreParts, cells_from, all_cells}
-use Rattle.cf_stages.specs.Words.{met_word}
+use Rattle.cf_semantics.specs.state.State.{cell_at}
 
-passengers_of : (k : ℕ) (ps : List (Option Passenger)) (qs : List (Option Packet)) (met : ℕ) → length qs ≡ length ps →
-    map (λ (c : Cell). c.passenger) (cells_from k ps qs met) ≡ ps
-unfolding cells_from
-passengers_of k [] qs met e = refl
-passengers_of k (p ∷ ps) [] met e = absurd (cc)
-passengers_of k (p ∷ ps) (q ∷ qs) met e = ap (λ (l : List (Option Passenger)). p ∷ l) (passengers_of (suc k) ps qs met (omega arith))
+-- the lowest stages, this many, are the same
+abbrev pub AreSame : List Cell → List Cell → ℕ → Type 0
+AreSame cells other n = (k : ℕ) → k < n → slice_get cells k ≡ slice_get other k
 
-packets_of : (k : ℕ) (ps : List (Option Passenger)) (qs : List (Option Packet)) (met : ℕ) → length qs ≡ length ps →
-    map (λ (c : Cell). c.packet) (cells_from k ps qs met) ≡ qs
-unfolding cells_from
-packets_of k [] [] met e = refl
-packets_of k [] (q ∷ qs) met e = absurd (cc)
-packets_of k (p ∷ ps) [] met e = absurd (cc)
-packets_of k (p ∷ ps) (q ∷ qs) met e = ap (λ (l : List (Option Packet)). q ∷ l) (packets_of (suc k) ps qs met (omega arith))
+pub none-same : (cells other : List Cell) → AreSame cells other 0
+none-same cells other k h = absurd (omega arith)
 
-pub same-passengers : (ps ps1 : List (Option Passenger)) (qs qs1 : List (Option Packet)) (r f m r1 f1 m1 : ℕ) → AreParts ps qs r f m →
-    AreParts ps1 qs1 r1 f1 m1 → all_cells ps qs m ≡ all_cells ps1 qs1 m1 → ps ≡ ps1
-same-passengers ps ps1 qs qs1 r f m r1 f1 m1 h k e = sym (passengers_of 0 ps qs m h.pipes) ∙ ap (map (λ (c : Cell). c.passenger)) e
-    ∙ passengers_of 0 ps1 qs1 m1 k.pipes
+pub more-same : (cells other : List Cell) (n : ℕ) (c d : Cell) → AreSame cells other n → Some c ≡ cell_at cells (n + 1) → Some d ≡ cell_at other (n + 1) →
+    c ≡ d → AreSame cells other (n + 1)
+more-same cells other n c d same e f is k h = elim (eq-or-lt_of_le {n = k} {m = n} (omega arith)) [
+  | inl at ↦ rw at (here (sym e ∙ ap Some is ∙ f))
+  | inr below ↦ same k below
+]
+  where
+    here : cell_at cells (n + 1) ≡ cell_at other (n + 1) → slice_get cells n ≡ slice_get other n
+    here e = let z : n + 1 ≡ suc n = omega arith in rw z at e
 
-pub same-packets : (ps ps1 : List (Option Passenger)) (qs qs1 : List (Option Packet)) (r f m r1 f1 m1 : ℕ) → AreParts ps qs r f m → AreParts ps1 qs1 r1 f1 m1 →
-    all_cells ps qs m ≡ all_cells ps1 qs1 m1 → qs ≡ qs1
-same-packets ps ps1 qs qs1 r f m r1 f1 m1 h k e = sym (packets_of 0 ps qs m h.pipes) ∙ ap (map (λ (c : Cell). c.packet)) e ∙ packets_of 0 ps1 qs1 m1 k.pipes
-
-pub same-met : (ps ps1 : List (Option Passenger)) (qs qs1 : List (Option Packet)) (r f m r1 f1 m1 : ℕ) → AreParts ps qs r f m → AreParts ps1 qs1 r1 f1 m1 →
-    all_cells ps qs m ≡ all_cells ps1 qs1 m1 → m ≡ m1
-same-met ps ps1 qs qs1 r f m r1 f1 m1 h k e = h.met_bits ∙ ap met_word e ∙ sym k.met_bits
-
-pub ruleset comparing = (same-passengers, same-packets, same-met)
+pub all-same : (cells other : List Cell) → length cells ≡ length other → AreSame cells other (length cells) → cells ≡ other
+all-same [] [] e same = refl
+all-same [] (d ∷ other) e same = absurd (cc)
+all-same (c ∷ cells) [] e same = absurd (cc)
+all-same (c ∷ cells) (d ∷ other) e same =
+    let first : Some c ≡ Some d = same 0 (omega arith) in
+    let head : c ≡ d = cc in
+    rw head (ap (λ (l : List Cell). d ∷ l) (all-same cells other (omega arith) (λ k h. same (suc k) (omega arith))))

@@ -1,5 +1,6 @@
--- The stages as two pipes side by side, with bit words that record where instructions and results are.
+-- The stages as two pipes side by side, with bit words that say where instructions and results are.
 use Rattle.std.specs.Prelude.{◌≡◌, ◌≤◌, ℕ, suc, Bool, List, [], ◌∷◌, Option, All, length}
+use Rattle.std.specs.Bool.{then_some}
 use Rattle.cf_bind.specs.declared.cell.Cell.{Cell}
 use Rattle.cf_bind.specs.declared.packet.Packet.{Packet}
 use Rattle.cf_bind.specs.declared.passenger.Passenger.{Passenger}
@@ -29,6 +30,23 @@ pub record AreParts (passengers : List (Option Passenger)) (packets : List (Opti
   pub passenger_bits : riding ≡ passenger_word (all_cells passengers packets met)
   pub packet_bits : flying ≡ packet_word (all_cells passengers packets met)
   pub met_bits : met ≡ met_word (all_cells passengers packets met)
+
+-- what the entries of a pipe from a given stage on hold: an entry means nothing if the bit of its stage is not set
+unfoldable pub held_from : {X : Type 0} → ℕ → ℕ → List X → List (Option X)
+held_from k word [] = []
+held_from k word (x ∷ entries) = then_some (has_bit word k) x ∷ held_from (suc k) word entries
+
+-- the same of a whole pipe
+abbrev pub held : {X : Type 0} → ℕ → List X → List (Option X)
+held word entries = held_from 0 word entries
+
+-- the contents of the stages by the entries of the two pipes and the bit words
+abbrev pub stages_of : List Passenger → List Packet → ℕ → ℕ → ℕ → List Cell
+stages_of passengers packets riding flying met = all_cells (held riding passengers) (held flying packets) met
+
+-- the pipes and the bit words are those of 2 to 32 stages
+abbrev pub AreStages : List Passenger → List Packet → ℕ → ℕ → ℕ → Type 0
+AreStages passengers packets riding flying met = AreParts (held riding passengers) (held flying packets) riding flying met
 
 -- a stage with this for its result, which has met the instruction there or has not
 abbrev pub with_place : Option Packet → Bool → Cell → Cell

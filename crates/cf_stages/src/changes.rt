@@ -12,7 +12,7 @@ use cf_bind::{Packet, Passenger, meet};
 impl Stages {
     /// Makes the instruction of the stage meet the result, in place, and returns what is left of the result.
     #[inline(always)]
-    #[tactic(auto, using(crate::proofs::Kept::counting, crate::proofs::Kept::reading))]
+    #[tactic(auto, using(crate::proofs::Written::renewing, crate::proofs::Entries::entries))]
     fn meet_passenger(&mut self, i: u32, packet: Packet) -> Option<Packet>
         requires above { 0 < i }
         requires within { i ≤ length self.old }
@@ -21,10 +21,7 @@ impl Stages {
         ensures left { result ≡ on (passenger_at self.old i) None (λ p. (meeting p packet).packet) }
         ensures count { length self.new ≡ length self.old }
     {
-        match &mut self.passengers[i as usize - 1] {
-            Some(passenger) => meet(passenger, packet),
-            None => unreachable!(),
-        }
+        meet(&mut self.passengers[i as usize - 1], packet)
     }
 
     /// Makes the instruction and the result of the stage meet. Afterwards they have met, or the result was killed and
@@ -36,11 +33,10 @@ impl Stages {
         ensures stages { self.new ≡ changed self.old i met_in }
         ensures count { length self.new ≡ length self.old }
     {
-        if let Some(packet) = self.packet(i) {
-            match self.meet_passenger(i, packet) {
-                Some(left) => self.keep_packet(i, left),
-                None => self.remove_packet(i),
-            }
+        let packet = self.packet_there(i);
+        match self.meet_passenger(i, packet) {
+            Some(left) => self.keep_packet(i, left),
+            None => self.remove_packet(i),
         }
     }
 
@@ -53,7 +49,7 @@ impl Stages {
         ensures count { length self.new ≡ length self.old }
     {
         let _ = &self.passengers;
-        self.place_passenger(1, Some(passenger));
+        self.place_passenger(1, passenger);
     }
 
     /// Puts a result into the stage. If `met` is set, an instruction is there, which it has met.
@@ -66,7 +62,7 @@ impl Stages {
         ensures stages { self.new ≡ changed self.old i (with_packet packet met) }
         ensures count { length self.new ≡ length self.old }
     {
-        self.place_packet(i, Some(packet), met);
+        self.place_packet(i, packet, met);
     }
 
     /// Removes the instruction of the highest stage.
@@ -76,7 +72,7 @@ impl Stages {
         ensures count { length self.new ≡ length self.old }
     {
         let top = self.count();
-        self.place_passenger(top, None);
+        self.remove_passenger(top);
     }
 
     /// Takes the result out of the lowest stage.
@@ -88,12 +84,8 @@ impl Stages {
         ensures stages { self.new ≡ changed self.old 1 without_packet }
         ensures count { length self.new ≡ length self.old }
     {
-        let _ = &self.packets;
-        let leaving = self.packet(1);
-        self.place_packet(1, None, false);
-        match leaving {
-            Some(packet) => packet,
-            None => unreachable!(),
-        }
+        let leaving = self.packet_there(1);
+        self.clear_packet(1);
+        leaving
     }
 }

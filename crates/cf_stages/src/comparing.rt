@@ -5,20 +5,14 @@ ghost use Rattle.std.specs.Prelude.{◌≡◌, ◌↔◌, IsTrue, not};
 ghost use Rattle.cf_semantics.specs.state.Drained.{is_occupied};
 
 use crate::stages::Stages;
-use cf_bind::{Packet, Passenger};
+use cf_bind::Cell;
 
-/// Whether the two pipes have the same instructions at the same stages.
-fn same_passengers(passengers: &[Option<Passenger>], other: &[Option<Passenger>]) -> bool
-    ensures { IsTrue result ↔ (passengers.now ≡ other.now) }
+/// Whether two stages have the same contents.
+#[tactic(auto, using(crate::proofs::Deciding::cell_decides))]
+fn is_same(cell: Cell, other: Cell) -> bool
+    ensures { IsTrue result ↔ (cell ≡ other) }
 {
-    passengers == other
-}
-
-/// Whether the two pipes have the same results at the same stages.
-fn same_packets(packets: &[Option<Packet>], other: &[Option<Packet>]) -> bool
-    ensures { IsTrue result ↔ (packets.now ≡ other.now) }
-{
-    packets == other
+    cell == other
 }
 
 impl Stages {
@@ -31,12 +25,17 @@ impl Stages {
     }
 
     /// Whether each stage has the same contents in both.
-    #[tactic(auto, using(crate::proofs::Sameness::comparing))]
     pub fn same(&self, other: &Stages) -> bool
         ensures { IsTrue result ↔ (self.now ≡ other.now) }
     {
-        same_passengers(&self.passengers, &other.passengers)
-            && same_packets(&self.packets, &other.packets)
-            && self.met_mask == other.met_mask
+        if self.count() != other.count() {
+            return false;
+        }
+        for below in 0..self.count() {
+            if !is_same(self.cell(below + 1), other.cell(below + 1)) {
+                return false;
+            }
+        }
+        true
     }
 }

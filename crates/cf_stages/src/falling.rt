@@ -4,7 +4,7 @@ ghost use Rattle.std.specs.Prelude.{◌≡◌, ◌≢◌, ℕ, ◌-◌, ◌<◌,
 ghost use Rattle.cf_layout.specs.Words.{has_bit as is_bit_set};
 ghost use Rattle.cf_stages.specs.Changes.{cells_fallen, falls};
 ghost use Rattle.cf_stages.specs.Falling.{AreResting, AreSomeFalls, FallsOn};
-ghost use Rattle.cf_stages.specs.Parts.{AreParts, all_cells};
+ghost use Rattle.cf_stages.specs.Parts.{AreStages, stages_of};
 
 use crate::stages::Stages;
 use crate::words::{lowered, with_bit};
@@ -27,25 +27,24 @@ pub(crate) struct StageWords {
 
 /// The result of the stage goes to the one below, which has none, where it has met nothing. The words follow.
 #[inline(always)]
-#[tactic(auto, using(crate::proofs::Lifted::dropping))]
+#[tactic(auto, using(crate::proofs::Written::dropping, crate::proofs::Entries::entries, crate::proofs::Kept::counting))]
 pub(crate) fn drop_one(
-    passengers: &Vec<Option<Passenger>>,
-    packets: &mut Vec<Option<Packet>>,
+    passengers: &[Passenger],
+    packets: &mut [Packet],
     words: StageWords,
     i: u32,
 ) -> StageWords
-    requires parts { AreParts passengers.now.items packets.old.items words.riding words.flying words.met }
-    requires falls { IsTrue (falls (all_cells passengers.now.items packets.old.items words.met) i) }
-    ensures parts { AreParts passengers.now.items packets.new.items result.riding result.flying result.met }
-    ensures cells { all_cells passengers.now.items packets.new.items result.met
-        ≡ cells_fallen (all_cells passengers.now.items packets.old.items words.met) i }
+    requires parts { AreStages passengers.now packets.old words.riding words.flying words.met }
+    requires falls { IsTrue (falls (stages_of passengers.now packets.old words.riding words.flying words.met) i) }
+    ensures parts { AreStages passengers.now packets.new result.riding result.flying result.met }
+    ensures cells { stages_of passengers.now packets.new result.riding result.flying result.met
+        ≡ cells_fallen (stages_of passengers.now packets.old words.riding words.flying words.met) i }
     ensures riding { result.riding ≡ words.riding }
 {
     let _passengers = passengers;
     let flying = lowered(words.flying, i);
     let met = with_bit(words.met, i, false);
     packets[i as usize - 2] = packets[i as usize - 1];
-    packets[i as usize - 1] = None;
     StageWords {
         riding: words.riding,
         flying,
@@ -80,18 +79,18 @@ fn moved_up(word: u32, other: u32, i: u32) -> u32
 /// Lets the results of these stages fall from the lowest up, and after each that of the stage above, if a result rests there.
 #[inline(always)]
 fn drop_in_turn(
-    passengers: &Vec<Option<Passenger>>,
-    packets: &mut Vec<Option<Packet>>,
+    passengers: &[Passenger],
+    packets: &mut [Packet],
     words: StageWords,
     left: u32,
     resting: u32,
 ) -> (StageWords, Fallen)
-    requires parts { AreParts passengers.now.items packets.old.items words.riding words.flying words.met }
-    requires left { AreSomeFalls (all_cells passengers.now.items packets.old.items words.met) left }
-    requires resting { AreResting (all_cells passengers.now.items packets.old.items words.met) resting }
-    ensures parts { AreParts passengers.now.items packets.new.items result.0.riding result.0.flying result.0.met }
-    ensures falls { FallsOn (all_cells passengers.now.items packets.old.items words.met) left
-        (all_cells passengers.now.items packets.new.items result.0.met) result.1.count result.1.last }
+    requires parts { AreStages passengers.now packets.old words.riding words.flying words.met }
+    requires left { AreSomeFalls (stages_of passengers.now packets.old words.riding words.flying words.met) left }
+    requires resting { AreResting (stages_of passengers.now packets.old words.riding words.flying words.met) resting }
+    ensures parts { AreStages passengers.now packets.new result.0.riding result.0.flying result.0.met }
+    ensures falls { FallsOn (stages_of passengers.now packets.old words.riding words.flying words.met) left
+        (stages_of passengers.now packets.new result.0.riding result.0.flying result.0.met) result.1.count result.1.last }
     ensures riding { result.0.riding ≡ words.riding }
 {
     let mut words = words;

@@ -19,7 +19,7 @@ impl Stages {
         if self.count() == i {
             return false;
         }
-        self.passenger(i).is_some() && !self.is_full(i) && self.passenger(i + 1).is_none()
+        self.has_passenger(i) && !self.is_full(i) && !self.has_passenger(i + 1)
     }
 
     /// Moves the instruction of the stage into the one above, where it has met nothing.
@@ -47,12 +47,12 @@ impl Stages {
         if i == 1 {
             return false;
         }
-        self.packet(i).is_some() && !self.is_full(i) && self.packet(i - 1).is_none()
+        self.has_packet(i) && !self.is_full(i) && !self.has_packet(i - 1)
     }
 
     /// Moves the result of the stage into the one below, where it has met nothing.
     #[inline(always)]
-    #[tactic(auto, using(crate::proofs::Order::falling))]
+    #[tactic(auto, using(crate::proofs::Order::falling, crate::proofs::Neighbours::falling))]
     pub fn fall(&mut self, i: u32)
         requires { IsTrue (falls self.old i) }
         ensures stages { self.new ≡ cells_fallen self.old i }

@@ -1,52 +1,47 @@
 //! One entry of a pipe gets new contents, and the bit words follow.
 
-ghost use Rattle.std.specs.Prelude.{◌≡◌, ◌-◌, ◌<◌, ◌≤◌, IsNone, IsSome, IsTrue, None, Some, false, length, slice_index_or, slice_set, true};
-ghost use Rattle.cf_semantics.specs.state.Options.{is_some};
+ghost use Rattle.std.specs.Prelude.{◌≡◌, ◌-◌, ◌<◌, ◌≤◌, IsNone, IsSome, IsTrue, None, Some, false, length, true};
 ghost use Rattle.cf_semantics.specs.state.State.{put_cell};
 ghost use Rattle.cf_stages.specs.Changes.{IsCell, changed, cells_lifted, cells_fallen, falls, has_met_at, packet_at, passenger_at, with_new_passenger};
 ghost use Rattle.cf_stages.specs.Parts.{with_place};
 
 use crate::falling::{StageWords, drop_one};
 use crate::stages::Stages;
-use crate::words::{is_there, with_bit};
+use crate::words::with_bit;
 use cf_bind::{Cell, Packet, Passenger};
 
-/// Copies the instruction of one entry into another.
-// The instruction is copied straight from one to the other; an entry as a whole would be put together in between.
-#[inline(always)]
-fn carry(places: &mut Vec<Option<Passenger>>, from: usize, to: usize)
-    requires from { from < length places.old.items }
-    requires to { to < length places.old.items }
-    requires there { IsSome (slice_index_or places.old.items from None) }
-    ensures copied { places.new.items ≡ slice_set places.old.items to (slice_index_or places.old.items from None) }
-    ensures count { length places.new.items ≡ length places.old.items }
-{
-    match places[from] {
-        Some(passenger) => places[to] = Some(passenger),
-        None => unreachable!(),
-    }
-}
-
 impl Stages {
-    /// An instruction comes to the stage, or leaves it. It has met nothing there.
+    /// An instruction comes to the stage, or replaces the one there. It has met nothing there.
     #[inline(always)]
-    #[tactic(auto, using(crate::proofs::Kept::coming_and_going, crate::proofs::Kept::counting))]
-    pub(crate) fn place_passenger(&mut self, i: u32, passenger: Option<Passenger>)
+    #[tactic(auto, using(crate::proofs::Written::coming_and_going, crate::proofs::Entries::entries))]
+    pub(crate) fn place_passenger(&mut self, i: u32, passenger: Passenger)
         requires above { 0 < i }
         requires within { i ≤ length self.old }
-        ensures stages { self.new ≡ changed self.old i (with_new_passenger passenger) }
+        ensures stages { self.new ≡ changed self.old i (with_new_passenger (Some passenger)) }
         ensures count { length self.new ≡ length self.old }
     {
-        self.passenger_mask = with_bit(self.passenger_mask, i, is_there(&passenger));
+        self.passenger_mask = with_bit(self.passenger_mask, i, true);
         self.met_mask = with_bit(self.met_mask, i, false);
         self.passengers[i as usize - 1] = passenger;
     }
 
-    /// The instruction of stage i goes to the higher stage j, which has none, where it has met nothing.
-    // It is copied directly from one entry to the other; a temporary would make it two copies. The bit of the higher stage
-    // needs no clearing: nothing has met where no instruction is.
+    /// The instruction of the stage leaves it, if there is one. Then nothing has met there.
     #[inline(always)]
-    #[tactic(auto, using(crate::proofs::Lifted::lifting, crate::proofs::Kept::counting))]
+    #[tactic(auto, using(crate::proofs::Written::coming_and_going, crate::proofs::Entries::entries))]
+    pub(crate) fn remove_passenger(&mut self, i: u32)
+        requires above { 0 < i }
+        requires within { i ≤ length self.old }
+        ensures stages { self.new ≡ changed self.old i (with_new_passenger None) }
+        ensures count { length self.new ≡ length self.old }
+    {
+        self.passenger_mask = with_bit(self.passenger_mask, i, false);
+        self.met_mask = with_bit(self.met_mask, i, false);
+    }
+
+    /// The instruction of stage i goes to the higher stage j, which has none, where it has met nothing.
+    // The bit of the higher stage needs no clearing: nothing has met where no instruction is.
+    #[inline(always)]
+    #[tactic(auto, using(crate::proofs::Written::lifting, crate::proofs::Entries::entries))]
     pub fn lift(&mut self, i: u32, j: u32)
         requires above { 0 < i }
         requires order { i < j }
@@ -58,24 +53,35 @@ impl Stages {
     {
         self.passenger_mask = with_bit(with_bit(self.passenger_mask, i, false), j, true);
         self.met_mask = with_bit(self.met_mask, i, false);
-        carry(&mut self.passengers, i as usize - 1, j as usize - 1);
-        self.passengers[i as usize - 1] = None;
+        self.passengers[j as usize - 1] = self.passengers[i as usize - 1];
     }
 
-    /// A result comes to the stage, or leaves it. It has met the instruction that is there, or has not.
+    /// A result comes to the stage, or replaces the one there. It has met the instruction that is there, or has not.
     #[inline(always)]
-    #[tactic(auto, using(crate::proofs::Kept::replacing, crate::proofs::Kept::counting))]
-    pub(crate) fn place_packet(&mut self, i: u32, packet: Option<Packet>, met: bool)
+    #[tactic(auto, using(crate::proofs::Written::replacing, crate::proofs::Entries::entries))]
+    pub(crate) fn place_packet(&mut self, i: u32, packet: Packet, met: bool)
         requires above { 0 < i }
         requires within { i ≤ length self.old }
-        requires result { IsTrue met → IsTrue (is_some packet) }
         requires passenger { IsTrue met → IsSome (passenger_at self.old i) }
-        ensures stages { self.new ≡ changed self.old i (with_place packet met) }
+        ensures stages { self.new ≡ changed self.old i (with_place (Some packet) met) }
         ensures count { length self.new ≡ length self.old }
     {
-        self.packet_mask = with_bit(self.packet_mask, i, is_there(&packet));
+        self.packet_mask = with_bit(self.packet_mask, i, true);
         self.met_mask = with_bit(self.met_mask, i, met);
         self.packets[i as usize - 1] = packet;
+    }
+
+    /// The result of the stage leaves it, if there is one. Then nothing has met there.
+    #[inline(always)]
+    #[tactic(auto, using(crate::proofs::Written::replacing, crate::proofs::Entries::entries))]
+    pub(crate) fn clear_packet(&mut self, i: u32)
+        requires above { 0 < i }
+        requires within { i ≤ length self.old }
+        ensures stages { self.new ≡ changed self.old i (with_place None false) }
+        ensures count { length self.new ≡ length self.old }
+    {
+        self.packet_mask = with_bit(self.packet_mask, i, false);
+        self.met_mask = with_bit(self.met_mask, i, false);
     }
 
     /// The result of the stage goes to the one below, which has none, where it has met nothing.
@@ -83,8 +89,7 @@ impl Stages {
     #[tactic(auto, using(crate::proofs::Kept::counting))]
     pub(crate) fn drop_packet(&mut self, i: u32)
         requires { IsTrue (falls self.old i) }
-        ensures stages { self.new ≡ cells_fallen self.old i }
-        ensures count { length self.new ≡ length self.old }
+        ensures { self.new ≡ cells_fallen self.old i }
     {
         let words = StageWords {
             riding: self.passenger_mask,
@@ -98,7 +103,7 @@ impl Stages {
 
     /// Replaces the result of the stage by what is left of it. It has met the instruction there now.
     #[inline(always)]
-    #[tactic(auto, using(crate::proofs::Remaining::staying, crate::proofs::Kept::counting))]
+    #[tactic(auto, using(crate::proofs::Written::remaining, crate::proofs::Entries::entries))]
     pub(crate) fn keep_packet(&mut self, i: u32, packet: Packet)
         requires above { 0 < i }
         requires within { i ≤ length self.old }
@@ -108,12 +113,12 @@ impl Stages {
         ensures count { length self.new ≡ length self.old }
     {
         self.met_mask = with_bit(self.met_mask, i, true);
-        self.packets[i as usize - 1] = Some(packet);
+        self.packets[i as usize - 1] = packet;
     }
 
     /// Removes the result of the stage, which was killed: the instruction there has met nothing.
     #[inline(always)]
-    #[tactic(auto, using(crate::proofs::Remaining::killing, crate::proofs::Kept::counting))]
+    #[tactic(auto, using(crate::proofs::Written::remaining, crate::proofs::Entries::entries))]
     pub(crate) fn remove_packet(&mut self, i: u32)
         requires above { 0 < i }
         requires within { i ≤ length self.old }
@@ -122,7 +127,6 @@ impl Stages {
         ensures count { length self.new ≡ length self.old }
     {
         self.packet_mask = with_bit(self.packet_mask, i, false);
-        self.packets[i as usize - 1] = None;
     }
 
     /// Puts back earlier contents of the stage.
@@ -135,7 +139,13 @@ impl Stages {
         ensures stages { self.new ≡ put_cell self.old i cell }
         ensures count { length self.new ≡ length self.old }
     {
-        self.place_passenger(i, cell.passenger);
-        self.place_packet(i, cell.packet, cell.met);
+        match cell.passenger {
+            Some(passenger) => self.place_passenger(i, passenger),
+            None => self.remove_passenger(i),
+        }
+        match cell.packet {
+            Some(packet) => self.place_packet(i, packet, cell.met),
+            None => self.clear_packet(i),
+        }
     }
 }

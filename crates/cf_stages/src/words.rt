@@ -2,7 +2,6 @@
 
 ghost use Rattle.std.specs.Prelude.{◌≡◌, ◌<◌, ◌≤◌, ◌-◌, true, false};
 ghost use Rattle.cf_layout.specs.Words.{has_bit as is_bit_set};
-ghost use Rattle.cf_semantics.specs.state.Options.{is_some};
 ghost use Rattle.cf_stages.specs.Words.{with_bit as with_bit_put};
 
 /// Whether the bit of a stage is set: bit i - 1 for stage i.
@@ -39,12 +38,4 @@ pub(crate) fn lowered(word: u32, i: u32) -> u32
     ensures { result ≡ with_bit_put (with_bit_put word (i - 1) false) (i - 2) true }
 {
     word - (1 << (i - 2))
-}
-
-/// Whether the entry has contents.
-#[inline(always)]
-pub(crate) fn is_there<T>(place: &Option<T>) -> bool
-    ensures { result ≡ is_some place.now }
-{
-    place.is_some()
 }

@@ -32,7 +32,7 @@ impl Processor {
         requires { IsProcessor self.now.plan self.now.state }
         ensures { result ≡ row_allows self.now.plan self.now.state mv.Emit }
     {
-        self.ends.lane_len() != 0 && self.stages.packet(self.stages.count()).is_none()
+        self.ends.lane_len() != 0 && !self.stages.has_packet(self.stages.count())
     }
 
     /// The register file answers the first request.

@@ -34,7 +34,7 @@ impl Processor {
         requires { IsProcessor self.now.plan self.now.state }
         ensures { result ≡ row_allows self.now.plan self.now.state mv.Exit }
     {
-        self.stages.packet(1).is_some() && !self.stages.is_full(1)
+        self.stages.has_packet(1) && !self.stages.is_full(1)
     }
 
     /// Takes in a result that has left. A value is cached if the layout has the cache. After a turn fetch goes on at

@@ -122,9 +122,7 @@ impl Processor {
     {
         if let Fetch::Running(pc) = self.ends.fetch() {
             self.enter(pc, guess);
-            let Some(passenger) = self.stages.passenger(1) else {
-                unreachable!()
-            };
+            let passenger = self.stages.passenger_there(1);
             let asked = requests(passenger);
             let destination = passenger.dst;
             let place = goto(passenger);
@@ -165,7 +163,7 @@ impl Processor {
         ensures taken { result.taken ≡ row_allows self.now.plan self.now.state (mv.Issue guess.Taken) }
         ensures wait { result.wait ≡ row_allows self.now.plan self.now.state (mv.Issue guess.Wait) }
     {
-        if self.stages.passenger(1).is_some() {
+        if self.stages.has_passenger(1) {
             return Issuable::never();
         }
         match self.ends.fetch() {

@@ -94,10 +94,7 @@ impl Processor {
         ensures { IsEvent self.now.plan self.now.state mv.Leave result }
     {
         let top = self.stages.count();
-        match self.stages.passenger(top) {
-            Some(passenger) => leaving(passenger),
-            None => unreachable!(),
-        }
+        leaving(self.stages.passenger_there(top))
     }
 
     /// The instruction of the highest stage leaves. Only what the registers and the end of the program need of it is copied.
@@ -110,9 +107,7 @@ impl Processor {
         ensures { self.new ≡ after_move self.old mv.Leave }
     {
         let top = self.stages.count();
-        let Some(passenger) = self.stages.passenger(top) else {
-            unreachable!()
-        };
+        let passenger = self.stages.passenger_there(top);
         let (dead, ending, destination) = (passenger.dead, passenger.ending, passenger.dst);
         self.stages.remove_top();
         if !dead {

@@ -1,10 +1,11 @@
 //! Meet: the instruction and the result of a stage meet.
 
-ghost use Rattle.std.specs.Prelude.{◌≡◌, false, length, None, ◌<◌, ◌≤◌};
+ghost use Rattle.std.specs.Prelude.{◌≡◌, IsTrue, false, length, None, ◌<◌, ◌≤◌};
 ghost use Rattle.cf_bind.specs.declared.moves.Move.TheVariants as mv;
 ghost use Rattle.cf_semantics.specs.moves.Bars.{row_bar};
 ghost use Rattle.cf_semantics.specs.moves.Events.{IsEvent};
 ghost use Rattle.cf_semantics.specs.state.Options.{on};
+ghost use Rattle.cf_stages.specs.Changes.{is_full_at};
 ghost use Rattle.cf_core.specs.Marks.{passes_by as stands_by, waits_on as is_waiting_on};
 ghost use Rattle.cf_core.specs.Processors.{IsProcessor, after_move};
 ghost use Rattle.cf_core.specs.Riders.{awaits as waits_for, is_left_waiting as left_waiting, is_passed_by as passed_by, lacks as waits_for_another};
@@ -115,17 +116,14 @@ impl Processor {
         ])
     }
 
-    /// Whether the instruction of the stage is live and the result there makes it dead.
+    /// Whether the instruction of the stage is live and the result there, which it has not met, makes it dead.
     #[inline(always)]
+    #[tactic(auto, using(cf_stages::proofs::Meetings::meeting_ones))]
     fn dies(&self, i: u32) -> bool
-        requires above { 0 < i }
-        requires within { i ≤ length self.now.state.cells }
+        requires { IsTrue (is_full_at self.now.state.cells i) }
         ensures { result ≡ dies_at self.now.state.cells i }
     {
-        match (self.stages.passenger(i), self.stages.packet(i)) {
-            (Some(passenger), Some(packet)) => is_fatal(passenger, packet),
-            _ => false,
-        }
+        is_fatal(self.stages.passenger_there(i), self.stages.packet_there(i))
     }
 
     /// The instruction and the result of the stage meet. Returns what this shows to the outside.

@@ -22,7 +22,7 @@ impl Processor {
         };
         first_of(&[
             (passenger.owes.is_none(), Bar::OwesNothing),
-            (self.stages.packet(i).is_some(), Bar::Occupied),
+            (self.stages.has_packet(i), Bar::Occupied),
         ])
     }
 

@@ -10,7 +10,7 @@ use Rattle.cf_core.proofs.processor.Processor.remark_climb.Goals as goal
 
 pub mark_siding_climbed-requires-clause-site : goal.mark_siding_climbed-requires-clause-site
 mark_siding_climbed-requires-clause-site c =
-    let rides = sym (c.passenger.ensures ∙ ap (λ (p : Processor). passenger_at p.state.cells c.args.j) c.self.view_is) ∙ c.in-Some.is in
-    let class = class-here _ c.in-Some.passenger c.args.class rides c.requires.class in
-    subst (λ (k : Class). AreSidingStages c.args.self.now.plan k c.in-Some-siding.site) class
-    (found-site c.args.self.now.plan c.args.class c.station-station.result.now c.in-Some-siding.site c.station-station.ensures c.in-Some-siding.is)
+    let rides = sym (c.passenger_there-passenger.ensures ∙ ap (λ (p : Processor). passenger_at p.state.cells c.args.j) c.self.view_is) in
+    let class = class-here _ _ c.args.class rides c.requires.class in
+    subst (λ (k : Class). AreSidingStages c.args.self.now.plan k c.in-Some.site) class
+    (found-site c.args.self.now.plan c.args.class c.station-station.result.now c.in-Some.site c.station-station.ensures c.in-Some.is)

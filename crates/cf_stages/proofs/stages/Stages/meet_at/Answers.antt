@@ -7,17 +7,17 @@ use Rattle.cf_stages.proofs.Meetings.{met-is}
 use Rattle.cf_stages.proofs.stages.Stages.meet_at.Goals as goal
 
 -- the result stays
-pub returns-in-Some-meet_passenger-clause-stages : goal.returns-in-Some-meet_passenger-clause-stages
-returns-in-Some-meet_passenger-clause-stages c =
+pub returns-in-Some-clause-stages : goal.returns-in-Some-clause-stages
+returns-in-Some-clause-stages c =
     c.keep_packet.ensures.stages
-    ∙ ap (λ (cells : List Cell). changed cells c.args.i (with_place (Some c.in-Some-meet_passenger.left) true)) c.meet_passenger.ensures.stages
-    ∙ met-is c.args.self.now c.args.i c.in-Some.packet (Some c.in-Some-meet_passenger.left) true c.requires (sym c.in-Some.is
-    ∙ c.packet.ensures) (sym c.in-Some-meet_passenger.is ∙ c.meet_passenger.ensures.left) refl
+    ∙ ap (λ (cells : List Cell). changed cells c.args.i (with_place (Some c.in-Some.left) true)) c.meet_passenger.ensures.stages
+    ∙ met-is c.args.self.now c.args.i c.packet_there-packet.result (Some c.in-Some.left) true c.requires c.packet_there-packet.ensures
+    (sym c.in-Some.is ∙ c.meet_passenger.ensures.left) refl
 
 -- it was killed
 pub returns-in-None-clause-stages : goal.returns-in-None-clause-stages
 returns-in-None-clause-stages c =
     c.remove_packet.ensures.stages
     ∙ ap (λ (cells : List Cell). changed cells c.args.i (with_place None false)) c.meet_passenger.ensures.stages
-    ∙ met-is c.args.self.now c.args.i c.in-Some.packet None false c.requires (sym c.in-Some.is
-    ∙ c.packet.ensures) (sym c.in-None.is ∙ c.meet_passenger.ensures.left) refl
+    ∙ met-is c.args.self.now c.args.i c.packet_there-packet.result None false c.requires c.packet_there-packet.ensures
+    (sym c.in-None.is ∙ c.meet_passenger.ensures.left) refl
