@@ -54,15 +54,10 @@ impl Processor {
     /// The class of the instruction of the stage, if a unit or a siding has still something to do with it.
     #[inline(always)]
     pub(crate) fn work_at(&self, i: u32) -> Option<Class>
-        requires above { 0 < i }
-        requires within { i ≤ self.now.plan.stages }
-        requires facts { IsProcessor self.now.plan self.now.state }
+        requires { IsSome (passenger_at self.now.state.cells i) }
         ensures { result ≡ on (passenger_at self.now.state.cells i) None work_of }
     {
-        self.know_stages();
-        let Some(passenger) = self.stages.passenger(i) else {
-            return None;
-        };
+        let passenger = self.stages.passenger_there(i);
         if is_idle(passenger) {
             None
         } else {

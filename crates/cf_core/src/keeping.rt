@@ -61,7 +61,7 @@ impl Processor {
     /// none and may climb on; and the moves of a result. But a result that comes to a stage with an operation to launch may
     /// bar the launch.
     #[inline(always)]
-    #[tactic(auto, using(crate::proofs::Sites::moving), unfolding(crate::specs::Marks::keeps_marks))]
+    #[tactic(auto, using(crate::proofs::Sites::moving, crate::proofs::moves::Meetings::allowed_full), unfolding(crate::specs::Marks::keeps_marks))]
     pub(crate) fn keeps_marks(&self, marks: Marks, m: Move) -> bool
         requires facts { IsProcessor self.now.plan self.now.state }
         requires allowed { row_bar self.now.plan self.now.state m ≡ None }
@@ -70,11 +70,7 @@ impl Processor {
     {
         match m {
             Move::Climb(i) => self.is_spent_at(i),
-            Move::Meet(i) => {
-                self.is_spent_at(i)
-                    || self.waits_on(i)
-                    || (self.passes_by(i) && !self.stops_by(marks, i))
-            }
+            Move::Meet(i) => self.keeps_in_meeting(i, self.stops_by(marks, i)),
             Move::Fall(i) => !self.launches_at(marks, i - 1),
             Move::Emit => !self.launches_at(marks, self.stages.count()),
             Move::Leave | Move::Exit => true,

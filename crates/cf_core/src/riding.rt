@@ -19,7 +19,7 @@ pub(crate) fn is_undone(passenger: &Passenger) -> bool
 pub(crate) fn is_out(passenger: &Passenger) -> bool
     ensures { result ≡ is_beside passenger.now }
 {
-    passenger.launched && !passenger.recovered
+    passenger.launched & !passenger.recovered
 }
 
 /// Whether it has been executed or is dead, and has nothing in a siding: no unit waits for it, and no siding.
@@ -27,7 +27,7 @@ pub(crate) fn is_out(passenger: &Passenger) -> bool
 pub(crate) fn is_idle(passenger: &Passenger) -> bool
     ensures { result ≡ idles passenger.now }
 {
-    !is_undone(passenger) && !is_out(passenger)
+    !is_undone(passenger) & !is_out(passenger)
 }
 
 /// Whether it owes nothing either: it has nothing left to do but to climb and to leave.

@@ -40,3 +40,5 @@ pub allowed-full : (cells : List Cell) (i : ℕ) → at cells i meet_bar ≡ Non
 allowed-full cells i e = grind arith
 
 pub ruleset meeting_in_stage = (meeting-event, allowed-full)
+
+pub ruleset allowed_full = (allowed-full)

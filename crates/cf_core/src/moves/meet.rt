@@ -1,19 +1,20 @@
 //! Meet: the instruction and the result of a stage meet.
 
-ghost use Rattle.std.specs.Prelude.{◌≡◌, IsTrue, false, length, None, ◌<◌, ◌≤◌};
+ghost use Rattle.std.specs.Prelude.{◌≡◌, ◌&&◌, ◌||◌, IsTrue, None, not};
 ghost use Rattle.cf_bind.specs.declared.moves.Move.TheVariants as mv;
 ghost use Rattle.cf_semantics.specs.moves.Bars.{row_bar};
 ghost use Rattle.cf_semantics.specs.moves.Events.{IsEvent};
-ghost use Rattle.cf_semantics.specs.state.Options.{on};
 ghost use Rattle.cf_stages.specs.Changes.{is_full_at};
-ghost use Rattle.cf_core.specs.Marks.{passes_by as stands_by, waits_on as is_waiting_on};
+ghost use Rattle.cf_core.specs.Marks.{keeps_marks};
+ghost use Rattle.cf_core.specs.Masks.{stops_there};
 ghost use Rattle.cf_core.specs.Processors.{IsProcessor, after_move};
 ghost use Rattle.cf_core.specs.Riders.{awaits as waits_for, is_left_waiting as left_waiting, is_passed_by as passed_by, lacks as waits_for_another};
 ghost use Rattle.cf_core.specs.Seen.{dies_at, event_seen as seen_of, is_fatal as fatal};
 
 use crate::processor::Processor;
+use crate::riding::is_spent;
 use crate::rows::first_of;
-use cf_bind::{Bar, Binding, Cell, Packet, Passenger};
+use cf_bind::{Bar, Binding, Packet, Passenger};
 use cf_semantics::Event;
 
 /// Whether the instruction is live and the result makes it dead.
@@ -66,33 +67,20 @@ fn lacks(source: Option<Binding>, register: u8) -> bool
     }
 }
 
-/// Whether the result is a value after which the instruction still waits for that of a source.
+/// Whether what is marked of the instruction is the same after it has met the result: a value after which it still waits
+/// for that of another source, or one that it does not wait for, if it may climb on.
 #[inline(always)]
-fn is_left_waiting(passenger: &Passenger, packet: Option<Packet>) -> bool
-    ensures { result ≡ on packet false (left_waiting passenger.now) }
+fn keeps_its_marks(passenger: &Passenger, packet: Packet, stops: bool) -> bool
+    ensures { result ≡ (left_waiting passenger.now packet || (passed_by passenger.now packet && not stops)) }
 {
     match packet {
-        Some(Packet::Value { reg, .. }) => {
-            lacks(passenger.src1, reg) || lacks(passenger.src2, reg)
+        Packet::Value { reg, .. } => {
+            lacks(passenger.src1, reg)
+                || lacks(passenger.src2, reg)
+                || !(stops || awaits(passenger.src1, reg) || awaits(passenger.src2, reg))
         }
-        Some(Packet::Turn(_)) => false,
-        Some(Packet::Halt) => false,
-        None => false,
-    }
-}
-
-/// Whether the result is a value that the instruction does not wait for.
-#[inline(always)]
-pub(crate) fn is_passed_by(passenger: &Passenger, packet: Option<Packet>) -> bool
-    ensures { result ≡ on packet false (passed_by passenger.now) }
-{
-    match packet {
-        Some(Packet::Value { reg, .. }) => {
-            !awaits(passenger.src1, reg) && !awaits(passenger.src2, reg)
-        }
-        Some(Packet::Turn(_)) => false,
-        Some(Packet::Halt) => false,
-        None => false,
+        Packet::Turn(_) => false,
+        Packet::Halt => false,
     }
 }
 
@@ -139,34 +127,16 @@ impl Processor {
         self.stages.meet_at(i);
         seen(dies, self.stages.packet(i))
     }
-
-    /// Whether the stage has an instruction and a value after which the instruction still waits for that of a source.
+    /// Whether the meeting in this stage, where both are and have not met, leaves the marks of all stages as they are, given
+    /// whether the instruction must not climb on yet.
     #[inline(always)]
-    pub(crate) fn waits_on(&self, i: u32) -> bool
-        requires above { 0 < i }
-        requires within { i ≤ self.now.plan.stages }
-        requires facts { IsProcessor self.now.plan self.now.state }
-        ensures { result ≡ is_waiting_on self.now.state i }
+    #[tactic(auto, using(cf_stages::proofs::Meetings::meeting_ones), unfolding(crate::specs::Marks::keeps_marks))]
+    pub(crate) fn keeps_in_meeting(&self, i: u32, stops: bool) -> bool
+        requires full { IsTrue (is_full_at self.now.state.cells i) }
+        requires stops { stops ≡ stops_there self.now.plan self.now.state i }
+        ensures { result ≡ keeps_marks self.now.plan self.now.state (mv.Meet i) }
     {
-        self.know_stages();
-        match self.stages.passenger(i) {
-            Some(passenger) => is_left_waiting(passenger, self.stages.packet(i)),
-            None => false,
-        }
-    }
-
-    /// Whether the stage has an instruction and a value that the instruction does not wait for.
-    #[inline(always)]
-    pub(crate) fn passes_by(&self, i: u32) -> bool
-        requires above { 0 < i }
-        requires within { i ≤ self.now.plan.stages }
-        requires facts { IsProcessor self.now.plan self.now.state }
-        ensures { result ≡ stands_by self.now.state i }
-    {
-        self.know_stages();
-        match self.stages.passenger(i) {
-            Some(passenger) => is_passed_by(passenger, self.stages.packet(i)),
-            None => false,
-        }
+        let passenger = self.stages.passenger_there(i);
+        is_spent(passenger) || keeps_its_marks(passenger, self.stages.packet_there(i), stops)
     }
 }

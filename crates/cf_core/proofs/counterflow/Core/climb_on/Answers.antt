@@ -1,5 +1,5 @@
 -- The words are brought up to date at the stage that the instruction left and at the one that it came to, or are unchanged.
-use Rattle.std.proofs.Common.{◌≡◌, ◌∙◌, None, arith, subst, sym}
+use Rattle.std.proofs.Common.{◌≡◌, ◌∙◌, None, subst, sym}
 use Rattle.cf_bind.specs.declared.moves.Move.TheVariants.{Climb}
 use Rattle.cf_semantics.specs.moves.Bars.{bar}
 use Rattle.cf_core.specs.Processors.{Processor}
@@ -8,16 +8,10 @@ use Rattle.cf_core.proofs.LiftedMarks.{climbed-facts, lifted-marks, lifted-same}
 use Rattle.cf_core.proofs.Lifts.{climb-stage}
 use Rattle.cf_core.proofs.counterflow.Core.climb_on.Goals as goal
 
-pub work_at-work-requires-clause-above : goal.work_at-work-requires-clause-above
-work_at-work-requires-clause-above c =
+pub work_at-work-requires : goal.work_at-work-requires
+work_at-work-requires c =
     let free = subst (λ (p : Processor). bar p.plan p.state (Climb c.args.i) ≡ None) (sym c.self.view_is) c.requires in
-    (climb-stage c.self.inside.processor c.args.i c.self.invariant.0 free).0
-
-pub work_at-work-requires-clause-within : goal.work_at-work-requires-clause-within
-work_at-work-requires-clause-within c =
-    let free = subst (λ (p : Processor). bar p.plan p.state (Climb c.args.i) ≡ None) (sym c.self.view_is) c.requires in
-    let below = (climb-stage c.self.inside.processor c.args.i c.self.invariant.0 free).1 in
-    omega arith
+    (climb-stage c.self.inside.processor c.args.i c.self.invariant.0 free).2
 
 pub remark_climb-requires-clause-facts : goal.remark_climb-requires-clause-facts
 remark_climb-requires-clause-facts c =

@@ -7,13 +7,8 @@ use Rattle.cf_core.proofs.Sites.{climb-fits}
 use Rattle.cf_core.proofs.moves.KeptServe.{unbarred}
 use Rattle.cf_core.proofs.processor.Processor.make_climb.Goals as goal
 
-pub work_at-work-requires-clause-above : goal.work_at-work-requires-clause-above
-work_at-work-requires-clause-above c = (climb-stage c.args.self.now c.args.i c.requires.facts c.requires.allowed).0
-
-pub work_at-work-requires-clause-within : goal.work_at-work-requires-clause-within
-work_at-work-requires-clause-within c =
-    let below = (climb-stage c.args.self.now c.args.i c.requires.facts c.requires.allowed).1 in
-    omega (arith, below)
+pub work_at-work-requires : goal.work_at-work-requires
+work_at-work-requires c = (climb-stage c.args.self.now c.args.i c.requires.facts c.requires.allowed).2
 
 pub climb-requires : goal.climb-requires
 climb-requires c = unbarred c.args.self.now.plan c.args.self.now.state _ c.requires.allowed
