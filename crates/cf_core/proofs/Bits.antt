@@ -76,6 +76,16 @@ with-bit-twice w k true = same_from_bits _ _ (λ i. rw (bit_at_or (bit_or w (2 ^
 with-bit-twice w k false =
     same_from_bits _ _ (λ i. rw (bit_at_and (bit_and w (bit_not w32 (2 ^ k))) (bit_not w32 (2 ^ k)) i, bit_at_and w (bit_not w32 (2 ^ k)) i) (omega arith))
 
+-- two bits are cleared in either order
+pub clears-commute : (w j k : ℕ) → with_bit (with_bit w j false) k false ≡ with_bit (with_bit w k false) j false
+unfolding with_bit
+clears-commute w j k = same_from_bits _ _ (λ i. rw (
+  bit_at_and (bit_and w (bit_not w32 (2 ^ j))) (bit_not w32 (2 ^ k)) i,
+  bit_at_and w (bit_not w32 (2 ^ j)) i,
+  bit_at_and (bit_and w (bit_not w32 (2 ^ k))) (bit_not w32 (2 ^ j)) i,
+  bit_at_and w (bit_not w32 (2 ^ k)) i,
+) (omega arith))
+
 pub marked-once : (plan : Plan) (s : State) (marks : Marks) (t : Touched) → t.low ≡ t.high → marked marks t.low (mark_at plan s t.low) ≡ remarked plan s marks t
 marked-once plan s marks t same =
     let m = mark_at plan s t.low in

@@ -1,5 +1,5 @@
 -- What changes in the words when an instruction that owes nothing has climbed.
-use Rattle.std.proofs.Common.{◌≡◌, ◌∙◌, ℕ, suc, ◌-◌, ◌<◌, ◌≤◌, Option, Some, None, Bool, true, false, refl, sym, ap, arith}
+use Rattle.std.proofs.Common.{◌≡◌, ◌∙◌, ℕ, ◌-◌, ◌<◌, ◌≤◌, Option, Some, None, Bool, true, false, refl, sym, ap, arith}
 use Rattle.std.specs.Prelude.{◌&&◌, ◌||◌, IsNone, IsSome, not}
 use Rattle.rv_inst.specs.declared.classes.Class.{Class}
 use Rattle.cf_bind.specs.declared.cell.Cell.{Cell}
@@ -14,9 +14,7 @@ use Rattle.cf_semantics.specs.state.Options.{is_some, on}
 use Rattle.cf_semantics.specs.state.Passengers.{kind}
 use Rattle.cf_semantics.specs.state.State.{State, cell_at}
 use Rattle.cf_stages.specs.Changes.{cells_lifted, passenger_at}
-use Rattle.cf_stages.specs.Words.{with_bit, word_of}
-use Rattle.cf_stages.proofs.Bits.{word-bit, word-small}
-use Rattle.cf_stages.proofs.Carries.{bit-kept}
+use Rattle.cf_stages.specs.Words.{with_bit}
 use Rattle.cf_core.specs.Climbing.{HasClimbed, work_of}
 use Rattle.cf_core.specs.Marks.{mark_at, marked, marks_of, no_mark, remarked, row_allows}
 use Rattle.cf_core.specs.Masks.{rides, stops_there}
@@ -25,7 +23,9 @@ use Rattle.cf_core.specs.Processors.{IsProcessor, Processor}
 use Rattle.cf_core.specs.Riders.{is_spent}
 use Rattle.cf_core.specs.declared.marks.Marks.{Marks}
 use Rattle.cf_core.specs.declared.marks.StageMark.{StageMark}
+use Rattle.cf_core.proofs.Bits.{clears-commute}
 use Rattle.cf_core.proofs.Blocks.{no-work, work-class}
+use Rattle.cf_core.proofs.FieldMarks.{marked-kept}
 use Rattle.cf_core.proofs.LiftedMarks.{ends, no-passenger}
 use Rattle.cf_core.proofs.Lifts.{at-bottom, at-top, climb-stage, rider}
 use Rattle.cf_core.proofs.Rides.{here-by, mark-none, owes-here}
@@ -33,7 +33,7 @@ use Rattle.cf_core.proofs.StillMarks.{rider-unlaunched}
 
 -- A stage at which the instruction does not stop --
 
-stops_here : (plan : Plan) (s : State) (i : ℕ) (p : Passenger) → passenger_at s.cells i ≡ Some p → stops_there plan s i ≡ stops_at plan p i
+pub stops_here : (plan : Plan) (s : State) (i : ℕ) (p : Passenger) → passenger_at s.cells i ≡ Some p → stops_there plan s i ≡ stops_at plan p i
 stops_here plan s i p e = let h = here-by (cell_at s.cells i) p e in rw (h.1, h.2) refl
 
 pub unlaunched-there : (plan : Plan) (s : State) (i : ℕ) (p : Passenger) → passenger_at s.cells i ≡ Some p → stops_there plan s i ≡ false →
@@ -56,8 +56,6 @@ unrecovered-there plan s i p e stays =
     rw (h.1, h.2) (not_returned p.launched p.recovered (recovers plan (kind p) i)
     (not p.dead && not p.done && not p.launched && (ends_units plan (kind p) i || launches plan (kind p) i)) (exit_op_bar plan s p)
     (sym (stops_here plan s i p e) ∙ stays))
-
-pub ruleset unstopped = (unlaunched-there, unrecovered-there)
 
 -- The words after it has climbed --
 
@@ -96,25 +94,69 @@ climbed-marks plan s marks i j stopped executed stops executes h stop execute la
     rw (is, was, stop, execute) (climbed_at plan s marks i j low (mark_at plan s j) h.left h.free refl refl refl refl h.owes launch recover
     ∙ ap (λ (m : StageMark). marked (marked marks i m) j (mark_at plan s j)) gone)
 
+-- what is cleared for one stage is still clear for the other
+still_clear : (marks : Marks) (i j : ℕ) → marked marks j no_mark ≡ marks →
+    with_bit marks.execute (i - 1) false ≡ with_bit (with_bit marks.execute (i - 1) false) (j - 1) false
+still_clear marks i j free =
+    let clear = ap (λ (m : Marks). m.execute) free in
+    sym (clears-commute marks.execute (i - 1) (j - 1) ∙ ap (λ (w : ℕ). with_bit w (i - 1) false) clear)
+
+-- where its operation is to be launched or recovered
+stopped_at : (marks : Marks) (i j : ℕ) (low high : StageMark) → marked marks i low ≡ marks → marked marks j no_mark ≡ marks →
+    low.owes ≡ false → low.stops ≡ false → low.launch ≡ false → low.recover ≡ false → high.owes ≡ false →
+    record marks {
+      stops = with_bit marks.stops (j - 1) high.stops;
+      execute = with_bit (with_bit marks.execute (i - 1) false) (j - 1) high.execute;
+      launch = with_bit marks.launch (j - 1) high.launch;
+      recover = with_bit marks.recover (j - 1) high.recover;
+    } ≡ marked (marked marks i no_mark) j high
+stopped_at marks i j low high left free lo ls ll lr ho =
+    let o = rw lo at (ap (λ (m : Marks). m.owes) left) in
+    let st = rw ls at (ap (λ (m : Marks). m.stops) left) in
+    let l = rw ll at (ap (λ (m : Marks). m.launch) left) in
+    let r = rw lr at (ap (λ (m : Marks). m.recover) left) in
+    let owes : marks.owes ≡ with_bit (with_bit marks.owes (i - 1) false) (j - 1) high.owes = rw (o, ho) (sym (ap (λ (m : Marks). m.owes) free)) in
+    let stops : with_bit marks.stops (j - 1) high.stops ≡ with_bit (with_bit marks.stops (i - 1) false) (j - 1) high.stops = rw st refl in
+    let launch : with_bit marks.launch (j - 1) high.launch ≡ with_bit (with_bit marks.launch (i - 1) false) (j - 1) high.launch = rw l refl in
+    let recover : with_bit marks.recover (j - 1) high.recover ≡ with_bit (with_bit marks.recover (i - 1) false) (j - 1) high.recover = rw r refl in
+    λ x. record {
+      owes = owes x;
+      stops = stops x;
+      execute = with_bit (with_bit marks.execute (i - 1) false) (j - 1) high.execute;
+      launch = launch x;
+      recover = recover x;
+    }
+
+pub stopped-marks : (plan : Plan) (s : State) (marks : Marks) (i j stopped executed launched recovered : ℕ) (launch recover : Bool) →
+    HasClimbed plan s marks i j → stops_there plan s j ≡ true → false ≡ row_allows plan s (Execute j) → launch ≡ row_allows plan s (Launch j) →
+    recover ≡ row_allows plan s (Recover j) → stopped ≡ with_bit marks.stops (j - 1) true →
+    executed ≡ with_bit marks.execute (i - 1) false → launched ≡ with_bit marks.launch (j - 1) launch → recovered ≡ with_bit marks.recover (j - 1) recover →
+    record marks { stops = stopped; execute = executed; launch = launched; recover = recovered } ≡ remarked plan s marks (record { low = i; high = j })
+unfolding mark_at
+stopped-marks plan s marks i j stopped executed launched recovered launch recover h stops execute entry return one two three four =
+    let gone = mark-none plan s i (no-passenger (passenger_at s.cells i) h.gone) in
+    let a = one ∙ ap (with_bit marks.stops (j - 1)) (sym stops) in
+    let b = two ∙ still_clear marks i j h.free ∙ ap (with_bit (with_bit marks.execute (i - 1) false) (j - 1)) execute in
+    let c = three ∙ ap (with_bit marks.launch (j - 1)) entry in
+    let d = four ∙ ap (with_bit marks.recover (j - 1)) return in
+    (λ x. record marks { stops = a x; execute = b x; launch = c x; recover = d x })
+    ∙ stopped_at marks i j (record no_mark { execute = h.could }) (mark_at plan s j) h.left h.free refl refl refl refl h.owes
+    ∙ ap (λ (m : StageMark). marked (marked marks i m) j (mark_at plan s j)) gone
+
+-- where it neither stops nor can be executed, nothing is marked any more
+pub passed-marks : (plan : Plan) (s : State) (marks : Marks) (p : Passenger) (i j left : ℕ) → HasClimbed plan s marks i j →
+    passenger_at s.cells j ≡ Some p → stops_there plan s j ≡ false → false ≡ row_allows plan s (Execute j) →
+    left ≡ with_bit marks.execute (i - 1) false → record marks { execute = left } ≡ remarked plan s marks (record { low = i; high = j })
+passed-marks plan s marks p i j left h here stops execute off =
+    let launch = unlaunched-there plan s j p here stops in
+    let recover = unrecovered-there plan s j p here stops in
+    let stop = sym (ap (λ (m : Marks). m.stops) h.free) in
+    let still = still_clear marks i j h.free in
+    rw off (λ x. record marks { stops = stop x; execute = still x })
+    ∙ climbed-marks plan s marks i j (with_bit marks.stops (j - 1) false) (with_bit (with_bit marks.execute (i - 1) false) (j - 1) false) false false h
+    (sym stops) execute launch recover refl refl
+
 -- Before and after --
-
--- the words already have the bits of a stage
-kept_bit : (test : ℕ → Bool) (n i : ℕ) → n ≤ 32 → 0 < i → i ≤ n → with_bit (word_of test n) (i - 1) (test i) ≡ word_of test n
-kept_bit test n i few low within =
-    let z : suc (i - 1) ≡ i = omega arith in
-    bit-kept (word_of test n) (i - 1) (test i) (omega arith) (word-small test n few) (word-bit test n (i - 1) (omega arith) ∙ ap test z)
-
-marked_kept : (plan : Plan) (s : State) (i : ℕ) (mark : StageMark) → plan.stages ≤ 32 → 0 < i → i ≤ plan.stages → mark_at plan s i ≡ mark →
-    marked (marks_of plan s) i mark ≡ marks_of plan s
-unfolding marks_of
-marked_kept plan s i mark few low within is =
-    let field = λ (f : StageMark → Bool). kept_bit (λ k. f (mark_at plan s k)) plan.stages i few low within in
-    let owes = field (λ m. m.owes) in
-    let stops = field (λ m. m.stops) in
-    let execute = field (λ m. m.execute) in
-    let launch = field (λ m. m.launch) in
-    let recover = field (λ m. m.recover) in
-    rw (← is) (λ x. record { owes = owes x; stops = stops x; execute = execute x; launch = launch x; recover = recover x })
 
 -- an instruction that can climb could at most be executed
 mark_before : (plan : Plan) (s : State) (i : ℕ) (q : Passenger) → passenger_at s.cells i ≡ Some q → is_some q.owes ≡ false → stops_at plan q i ≡ false →
@@ -151,8 +193,8 @@ has-climbed p new marks i j h free up within room is kept =
       here = rw (top, same) refl;
       owes = rw (top, same) r.owes;
       could = row_allows p.plan p.state (Execute i);
-      left = marked_kept p.plan p.state i _ few stage.0 (omega (arith, stage.1)) (mark_before p.plan p.state i q.0 q.1 r.owes r.stays);
-      free = marked_kept p.plan p.state j no_mark few (omega (arith, up)) within
+      left = marked-kept p.plan p.state i _ few stage.0 (omega (arith, stage.1)) (mark_before p.plan p.state i q.0 q.1 r.owes r.stays);
+      free = marked-kept p.plan p.state j no_mark few (omega (arith, up)) within
           (sym (mark-none p.plan p.state j (no-passenger (passenger_at p.state.cells j) room)));
     })
 

@@ -13,6 +13,7 @@ pub mod Sameness
 pub mod Entries
 pub mod Bits
 pub mod SameMarks
+pub mod FieldMarks
 pub mod Touched
 pub mod Sites
 pub mod Masked
@@ -35,3 +36,7 @@ pub mod Tabled
 pub mod Laid
 pub mod Made
 pub mod OneClimb
+pub mod MoveMarks
+pub mod Readied
+pub mod MoveWords
+pub mod IssueMarks

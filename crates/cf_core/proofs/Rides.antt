@@ -157,6 +157,12 @@ none_rides : (o : Option Cell) (f : Passenger → Bool) → on o None (λ c. c.p
 none_rides None f e = refl
 none_rides (Some c) f e = rw e refl
 
+pub launch-nowhere : (plan : Plan) (s : State) (i : ℕ) → passenger_at s.cells i ≡ None → false ≡ row_allows plan s (Launch i)
+launch-nowhere plan s i e = none_row (cell_at s.cells i) (λ c. launch_bar plan s c i) (λ c none. rw none refl) e
+
+pub recover-nowhere : (plan : Plan) (s : State) (i : ℕ) → passenger_at s.cells i ≡ None → false ≡ row_allows plan s (Recover i)
+recover-nowhere plan s i e = none_row (cell_at s.cells i) (λ c. recover_bar plan s c i) (λ c none. rw none refl) e
+
 pub mark-none : (plan : Plan) (s : State) (i : ℕ) → passenger_at s.cells i ≡ None → no_mark ≡ mark_at plan s i
 unfolding mark_at
 mark-none plan s i e =
@@ -164,8 +170,8 @@ mark-none plan s i e =
     let owes = none_rides o (λ p. is_some p.owes) e in
     let stops = none_rides o (λ p. stops_at plan p i) e in
     let execute = none_row o (λ c. execute_bar plan c i) (λ c none. rw none refl) e in
-    let launch = none_row o (λ c. launch_bar plan s c i) (λ c none. rw none refl) e in
-    let recover = none_row o (λ c. recover_bar plan s c i) (λ c none. rw none refl) e in
+    let launch = launch-nowhere plan s i e in
+    let recover = recover-nowhere plan s i e in
     λ x. record { owes = owes x; stops = stops x; execute = execute x; launch = launch x; recover = recover x }
 
 -- and of an instruction with which no unit and no siding has anything left to do
@@ -236,3 +242,7 @@ pub ruleset owed = (owes-here)
 pub ruleset units = (owes-here, launch-none, recover-none)
 
 pub ruleset idle = (mark-idle)
+
+pub ruleset no_launches = (launch-none, launch-nowhere)
+
+pub ruleset no_recovers = (recover-none, recover-nowhere)

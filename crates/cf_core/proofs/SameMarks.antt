@@ -1,22 +1,23 @@
 -- What holds of a stage depends on what is there, and on the first and the last cell of the siding of its instruction.
-use Rattle.std.proofs.Common.{◌≡◌, ◌≢◌, ◌∙◌, ℕ, List, Option, Some, None, Bool, true, false, refl, sym, ap, arith}
-use Rattle.std.specs.Prelude.{◌==◌, ◌&&◌, ◌||◌, [], ◌∷◌, nat_eq, not}
+use Rattle.std.proofs.Common.{◌≡◌, ◌≢◌, ◌∙◌, ℕ, suc, length, List, Option, Some, None, Bool, true, false, refl, sym, ap, arith}
+use Rattle.std.specs.Prelude.{◌==◌, ◌&&◌, ◌||◌, [], ◌∷◌, nat_eq, not, slice_get}
 use Rattle.std.proofs.lemmas.Bool.Decides.{nat_tests}
 use Rattle.cf_bind.specs.declared.cell.Cell.{Cell}
 use Rattle.cf_bind.specs.declared.cell.Op.{Op}
 use Rattle.cf_bind.specs.declared.moves.Bar.{Bar}
-use Rattle.cf_bind.specs.declared.moves.Bar.TheVariants.{Dead, AlreadyDone, NoUnit, NotMet, NoSuchSite, NoPassenger}
+use Rattle.cf_bind.specs.declared.moves.Bar.TheVariants.{Dead, AlreadyDone, NoUnit, NotMet, NoSuchSite, NoPassenger, Occupied}
+use Rattle.cf_bind.specs.declared.moves.Move.TheVariants.{Launch, Recover}
 use Rattle.cf_bind.specs.declared.passenger.Passenger.{Passenger}
 use Rattle.cf_layout.specs.Layout.{Plan, launch_stage, recover_stage, siding_of}
-use Rattle.theory_refinement.proofs.column.Sidings.{put_other}
-use Rattle.cf_semantics.specs.moves.Bars.{entry_bar, execute_bar, exit_op_bar, first_bar_of, is_full, launch_bar, recover_bar, source_bar, stops_at}
+use Rattle.theory_refinement.proofs.column.Sidings.{put_here, put_other}
+use Rattle.cf_semantics.specs.moves.Bars.{cell_is_taken, entry_bar, execute_bar, exit_op_bar, first_bar_of, is_full, launch_bar, recover_bar, source_bar, stops_at}
 use Rattle.cf_semantics.specs.moves.Instructions.{is_memory}
 use Rattle.cf_semantics.specs.state.Layouts.{launches, recovers}
 use Rattle.cf_semantics.specs.state.Options.{on, is_some}
 use Rattle.cf_semantics.specs.state.Passengers.{kind}
 use Rattle.cf_semantics.specs.state.State.{State, cell_at, put_cell, siding_at, with_cell, with_siding}
 use Rattle.cf_stages.proofs.Parts.{cell-put-other}
-use Rattle.cf_core.specs.Marks.{mark_at}
+use Rattle.cf_core.specs.Marks.{mark_at, row_allows}
 use Rattle.cf_core.specs.declared.marks.StageMark.{StageMark}
 use Rattle.cf_core.proofs.Bits.{SameBut}
 
@@ -80,7 +81,7 @@ return_row plan s i p = first_bar_of (
 other_siding : (s : State) (k h : ℕ) (ops : List (Option Op)) → h ≢ k → siding_at (with_siding s k ops) h ≡ siding_at s h
 other_siding s k h ops off = put_other s.sidings k h ops off
 
-elsewhere : (a b : ℕ) → b ≢ a → (a == b) ≡ false
+pub elsewhere : (a b : ℕ) → b ≢ a → (a == b) ≡ false
 elsewhere a b off = grind (arith, nat_tests)
 
 launch_row_same : (plan : Plan) (s : State) (k : ℕ) (ops : List (Option Op)) (c : Cell) (j : ℕ) (p : Passenger) → j ≢ launch_stage plan k → (h : Option ℕ) →
@@ -127,18 +128,52 @@ return_same plan s k ops j c off = on_same c.passenger (Some NoPassenger) (retur
     (λ p. return_row_same plan s k ops j p off (siding_of plan (kind p)) refl)
 
 -- other cells in a siding change no stage but those at which it launches and recovers
+pub siding-launch : (plan : Plan) (s : State) (k : ℕ) (ops : List (Option Op)) (j : ℕ) → j ≢ launch_stage plan k →
+    row_allows plan (with_siding s k ops) (Launch j) ≡ row_allows plan s (Launch j)
+siding-launch plan s k ops j off = ap (λ (b : Option Bar). not (is_some b)) (on_same (cell_at s.cells j) (Some NoSuchSite)
+    (λ c. launch_bar plan (with_siding s k ops) c j) (λ c. launch_bar plan s c j) (λ c. launch_same plan s k ops j c off))
+
+pub siding-recover : (plan : Plan) (s : State) (k : ℕ) (ops : List (Option Op)) (j : ℕ) → j ≢ recover_stage plan k →
+    row_allows plan (with_siding s k ops) (Recover j) ≡ row_allows plan s (Recover j)
+siding-recover plan s k ops j off = ap (λ (b : Option Bar). not (is_some b)) (on_same (cell_at s.cells j) (Some NoSuchSite)
+    (λ c. recover_bar plan (with_siding s k ops) c j) (λ c. recover_bar plan s c j) (λ c. return_same plan s k ops j c off))
+
 pub siding-but : (plan : Plan) (s : State) (k : ℕ) (ops : List (Option Op)) → SameBut plan s (with_siding s k ops) (launch_stage plan k) (recover_stage plan k)
-unfolding mark_by
+unfolding mark_at
 siding-but plan s k ops j off far =
-    let o = cell_at s.cells j in
-    let launch = ap (λ (b : Option Bar). not (is_some b)) (on_same o (Some NoSuchSite) (λ c. launch_bar plan (with_siding s k ops) c j)
-    (λ c. launch_bar plan s c j) (λ c. launch_same plan s k ops j c off)) in
-    let recover = ap (λ (b : Option Bar). not (is_some b)) (on_same o (Some NoSuchSite) (λ c. recover_bar plan (with_siding s k ops) c j)
-    (λ c. recover_bar plan s c j) (λ c. return_same plan s k ops j c far)) in
-    let m = mark_by plan s j o in
-    mark_is plan (with_siding s k ops) j
-    ∙ (λ x. record { owes = m.owes; stops = m.stops; execute = m.execute; launch = launch x; recover = recover x })
-    ∙ sym (mark_is plan s j)
+    let launch = siding-launch plan s k ops j off in
+    let recover = siding-recover plan s k ops j far in
+    let m = mark_at plan s j in
+    λ x. record { owes = m.owes; stops = m.stops; execute = m.execute; launch = launch x; recover = recover x }
+
+-- no stage launches otherwise if the first cell of the siding is taken as before
+taken_same : (s : State) (k n : ℕ) (ops : List (Option Op)) (h : ℕ) → length (siding_at s k) ≡ suc n →
+    cell_is_taken (slice_get ops 0) ≡ cell_is_taken (slice_get (siding_at s k) 0) → (b : Bool) → nat_eq h k ≡ b →
+    cell_is_taken (slice_get (siding_at (with_siding s k ops) h) 0) ≡ cell_is_taken (slice_get (siding_at s h) 0)
+taken_same s k n ops h some same true e =
+    let at : h ≡ k = grind (arith, nat_tests) in
+    rw (at, put_here s.sidings k ops n some) same
+taken_same s k n ops h some same false e =
+    let other : h ≢ k = grind (arith, nat_tests) in
+    ap (λ (l : List (Option Op)). cell_is_taken (slice_get l 0)) (other_siding s k h ops other)
+
+pub entry-launch : (plan : Plan) (s : State) (k n : ℕ) (ops : List (Option Op)) (j : ℕ) → length (siding_at s k) ≡ suc n →
+    cell_is_taken (slice_get ops 0) ≡ cell_is_taken (slice_get (siding_at s k) 0) →
+    row_allows plan (with_siding s k ops) (Launch j) ≡ row_allows plan s (Launch j)
+unfolding launch_row
+entry-launch plan s k n ops j some same =
+    let t = with_siding s k ops in
+    let entry = λ (p : Passenger). on_same (siding_of plan (kind p)) None
+    (λ h. first_bar_of ((cell_is_taken (slice_get (siding_at t h) 0), Occupied) ∷ []) None)
+    (λ h. first_bar_of ((cell_is_taken (slice_get (siding_at s h) 0), Occupied) ∷ []) None)
+    (λ h. ap (λ (b : Bool). first_bar_of ((b, Occupied) ∷ []) None) (taken_same s k n ops h some same (nat_eq h k) refl)) in
+    let row = λ (c : Cell). on_same c.passenger (Some NoPassenger) (launch_row plan t c j) (launch_row plan s c j)
+    (λ p. ap (λ (b : Option Bar). first_bar_of (
+    (p.dead, Dead) ∷
+    (p.done || p.launched, AlreadyDone) ∷
+    (not (launches plan (kind p) j), NoUnit) ∷
+    (is_memory (kind p) && is_full c, NotMet) ∷ []) (source_bar p b)) (entry p)) in
+    ap (λ (b : Option Bar). not (is_some b)) (on_same (cell_at s.cells j) (Some NoSuchSite) (λ c. launch_bar plan t c j) (λ c. launch_bar plan s c j) row)
 
 -- nor does a change of what is beside the pipes and the sidings
 among : (plan : Plan) (s : State) (sidings : List (List (Option Op))) (i : ℕ) (o : Option Cell) → sidings ≡ s.sidings →

@@ -29,7 +29,7 @@ one_stage plan s t i but here k = by_stage (nat_eq k i) refl
     by_stage true e = let z : k ≡ i = grind (arith, nat_tests) in rw z here
     by_stage false e = let off : k ≢ i = grind (arith, nat_tests) in but k off off
 
-mark_put : (plan : Plan) (s : State) (i : ℕ) (b c : Cell) → cell_at s.cells i ≡ Some b → mark_at plan (with_cell s i c) i ≡ mark_by plan s i (Some c)
+pub mark_put : (plan : Plan) (s : State) (i : ℕ) (b c : Cell) → cell_at s.cells i ≡ Some b → mark_at plan (with_cell s i c) i ≡ mark_by plan s i (Some c)
 mark_put plan s i b c here =
     mark_is plan (with_cell s i c) i
     ∙ ap (mark_by plan (with_cell s i c) i) (cell-put s.cells i c (stage-low s.cells i b here) (stage-high s.cells i b here))

@@ -3,6 +3,7 @@ use Rattle.std.proofs.Common.{◌≡◌, ℕ, ◌+◌, ◌-◌, ◌<◌, ◌≤�
 use Rattle.std.specs.Prelude.{All, nat_lt, slice_get, unwrap_or}
 use Rattle.std.proofs.lemmas.Option.{slice_get_within, unwrap_or-slice_get}
 use Rattle.std.proofs.lemmas.Bool.Decides.{nat_tests}
+use Rattle.rv_inst.specs.declared.classes.Class.{Class}
 use Rattle.rv_inst.specs.declared.classes.Class.TheVariants.{Memory as MemoryClass}
 use Rattle.cf_bind.specs.declared.cell.Cell.{Cell}
 use Rattle.cf_bind.specs.declared.cell.Op.{Op}
@@ -24,9 +25,12 @@ use Rattle.cf_stages.specs.Changes.{passenger_at}
 use Rattle.cf_stages.proofs.Parts.{stage-high, stage-low}
 use Rattle.cf_core.specs.Marks.{Within, one_stage, home_at, sites, touched}
 use Rattle.cf_core.specs.Processors.{IsProcessor}
+use Rattle.cf_core.specs.Stations.{station_of}
+use Rattle.cf_core.specs.declared.stations.SidingStages.{SidingStages}
+use Rattle.cf_core.specs.declared.stations.Station.{Station}
+use Rattle.cf_core.proofs.Tabled.{found-none, found-site}
 use Rattle.cf_core.proofs.Berths.{cells-none, length-siding}
 use Rattle.cf_core.proofs.Ported.{memory-port}
-use Rattle.cf_layout.specs.Layout.{cells_of}
 
 one_within : (plan : Plan) (i : ℕ) → 0 < i → i ≤ plan.stages → Within plan (one_stage i)
 one_within plan i low high = record { low = low; low_in = high; high = low; high_in = high }
@@ -66,6 +70,18 @@ home_within : (plan : Plan) (s : State) (i : ℕ) (f : Cell → Option Bar) (o :
     on (cell_at s.cells i) (Some NoSuchSite) f ≡ None → Within plan (on o (one_stage i) (sites plan))
 home_within plan s i f None h e free = at_stage plan s i f h free
 home_within plan s i f (Some k) h e free = siding_within plan k h.accepted (home_number plan (passenger_at s.cells i) k e)
+
+-- the stages of the siding in the table are those of the instruction's siding
+pub home-site : (plan : Plan) (s : State) (i : ℕ) (p : Passenger) (c : Class) (station : Station) (site : SidingStages) → passenger_at s.cells i ≡ Some p →
+    c ≡ kind p → station ≡ station_of plan c → station.siding ≡ Some site →
+    record { low = site.launch; high = site.recover } ≡ on (home_at plan s i) (one_stage i) (sites plan)
+home-site plan s i p c station site here class is home =
+    let at = found-site plan c station site is home in
+    rw (here, ← class, at.siding, at.launch, at.recover) refl
+
+pub home-none : (plan : Plan) (s : State) (i : ℕ) (p : Passenger) (c : Class) (station : Station) → passenger_at s.cells i ≡ Some p →
+    c ≡ kind p → station ≡ station_of plan c → station.siding ≡ None → one_stage i ≡ on (home_at plan s i) (one_stage i) (sites plan)
+home-none plan s i p c station here class is home = rw (here, ← class, found-none plan c station is home) refl
 
 -- a siding with a cell exists
 cell_there : (ops : List (Option Op)) (c : ℕ) (o : Option (Option Op)) → slice_get ops (c + 1) ≡ o → slide_bar ops c ≡ None → 0 < length ops
@@ -149,6 +165,12 @@ meet-low plan s i h free = (at_stage plan s i _ h free).low
 pub meet-high : (plan : Plan) (s : State) (i : ℕ) → IsProcessor plan s → row_bar plan s (Meet i) ≡ None → i ≤ plan.stages
 meet-high plan s i h free = (at_stage plan s i _ h free).low_in
 
+pub send-low : (plan : Plan) (s : State) (i : ℕ) → IsProcessor plan s → row_bar plan s (Send i) ≡ None → 0 < i
+send-low plan s i h free = (at_stage plan s i _ h free).low
+
+pub send-fits : (plan : Plan) (s : State) (i : ℕ) → IsProcessor plan s → row_bar plan s (Send i) ≡ None → i ≤ 32
+send-fits plan s i h free = let w = at_stage plan s i _ h free in omega (arith, w.low_in, h.accepted.stages.1)
+
 pub launch-low : (plan : Plan) (s : State) (i : ℕ) → IsProcessor plan s → row_bar plan s (Launch i) ≡ None → 0 < i
 launch-low plan s i h free = (at_stage plan s i _ h free).low
 
@@ -164,3 +186,5 @@ recover-high plan s i h free = (at_stage plan s i _ h free).low_in
 pub ruleset touching = (slide-number, port-number, climb-fits, fall-fits, launch-low, launch-high, recover-low, recover-high)
 
 pub ruleset moving = (climb-low, climb-high, fall-fits, fall-low, fall-high, meet-low, meet-high)
+
+pub ruleset sending = (send-low, send-fits)

@@ -61,7 +61,7 @@ as_full plan s i o f g e = ap (λ (b : Bool). not (is_some (on o (Some NoPasseng
 gone_full : (c : Cell) → is_full c ≡ false → is_full (without_packet c) ≡ is_full c
 gone_full c e = grind arith
 
-packet_gone : (plan : Plan) (s : State) (i : ℕ) (c : Cell) → cell_at s.cells i ≡ Some c → is_full c ≡ false → Same plan s (with_cell s i (without_packet c))
+pub packet_gone : (plan : Plan) (s : State) (i : ℕ) (c : Cell) → cell_at s.cells i ≡ Some c → is_full c ≡ false → Same plan s (with_cell s i (without_packet c))
 packet_gone plan s i c here clear =
     put_same plan s i c (without_packet c) here (packet_mark plan s i c None false (as_full plan s i c.passenger (is_full (without_packet c)) (is_full c)
     (gone_full c clear)))
@@ -100,7 +100,7 @@ unset : (b : Bool) → not b ≡ true → b ≡ false
 unset true e = absurd (cc)
 unset false e = refl
 
-fall_tests : (c d : Cell) → fall_bar c (Some d) ≡ None → (is_full c ≡ false) × (is_some d.packet ≡ false)
+pub fall_tests : (c d : Cell) → fall_bar c (Some d) ≡ None → (is_full c ≡ false) × (is_some d.packet ≡ false)
 fall_tests c d e = tests (is_some c.packet) (is_full c) (is_some d.packet) e
   where
     tests : (k f o : Bool) → first (not k) NoPacket (first f NotMet (first o Occupied None)) ≡ None → (f ≡ false) × (o ≡ false)

@@ -6,9 +6,14 @@ use Rattle.rv_inst.specs.declared.classes.Class.TheVariants.{Add, Logic, Shift, 
 use Rattle.cf_layout.specs.Layout.{Plan, last_stage, siding_of, unit_at}
 use Rattle.cf_layout.specs.Words.{has_bit}
 use Rattle.cf_layout.proofs.Facts.{siding_found}
+use Rattle.cf_bind.specs.declared.passenger.Passenger.{Passenger}
+use Rattle.cf_semantics.specs.state.Passengers.{kind}
+use Rattle.cf_semantics.specs.state.State.{State}
+use Rattle.cf_stages.specs.Changes.{passenger_at}
 use Rattle.cf_stages.specs.Words.{flag, with_bit, word_of}
 use Rattle.cf_stages.proofs.Bits.{word-bit, word-bit-above, word-small}
 use Rattle.cf_stages.proofs.Carries.{bit-kept, set-adds}
+use Rattle.cf_core.specs.Riders.{StandsBeside}
 use Rattle.cf_core.specs.Stations.{AreSidingStages, home_site, index_of, site_of, station_of, stations_of}
 use Rattle.cf_core.specs.declared.stations.SidingStages.{SidingStages}
 use Rattle.cf_core.specs.declared.stations.Station.{Station}
@@ -91,6 +96,13 @@ found-site plan c s site e h = site-there plan c site (sym (ap (λ (t : Station)
 
 pub found-none : (plan : Plan) (c : Class) (s : Station) → s ≡ station_of plan c → s.siding ≡ None → siding_of plan c ≡ None
 found-none plan c s e h = no-site plan c (sym (ap (λ (t : Station). t.siding) e) ∙ h)
+
+-- an instruction whose class has a siding is beside it
+pub stands-beside : (plan : Plan) (s : State) (p : Passenger) (c : Class) (station : Station) (site : SidingStages) (i : ℕ) → 0 < i → i ≤ plan.stages →
+    passenger_at s.cells i ≡ Some p → c ≡ kind p → station ≡ station_of plan c → station.siding ≡ Some site → StandsBeside plan s p c site.number i
+stands-beside plan s p c station site i low within here class is home =
+    let at = found-site plan c station site is home in
+    (low, within, here, class, rw (← class) at.siding, at.inside)
 
 pub ruleset unit_bits = (unit-bit)
 

@@ -129,11 +129,11 @@ access-but plan s =
     both plan s _ (accessed plan s op) i j (siding-but plan s (port plan) _) (rest-but plan _ (accessed plan s op) i j refl refl))
 
 -- an operation is launched from one stage of its siding, and recovered at the other
-launch_site : (plan : Plan) (s : State) (i : ℕ) (c : Cell) (p : Passenger) (k : ℕ) → launch_bar plan s c i ≡ None → c.passenger ≡ Some p →
+pub launch_site : (plan : Plan) (s : State) (i : ℕ) (c : Cell) (p : Passenger) (k : ℕ) → launch_bar plan s c i ≡ None → c.passenger ≡ Some p →
     siding_of plan (kind p) ≡ Some k → launch_stage plan k ≡ i
 launch_site plan s i c p k free rides home = grind (arith, nat_tests)
 
-recover_site : (plan : Plan) (s : State) (i : ℕ) (c : Cell) (p : Passenger) (k : ℕ) → recover_bar plan s c i ≡ None → c.passenger ≡ Some p →
+pub recover_site : (plan : Plan) (s : State) (i : ℕ) (c : Cell) (p : Passenger) (k : ℕ) → recover_bar plan s c i ≡ None → c.passenger ≡ Some p →
     siding_of plan (kind p) ≡ Some k → recover_stage plan k ≡ i
 recover_site plan s i c p k free rides home = grind (arith, nat_tests)
 

@@ -1,5 +1,5 @@
 -- What is kept of each stage from one move to the next, and which stages a move can change.
-use Rattle.std.specs.Prelude.{ℕ, ◌+◌, ◌-◌, ◌<◌, ◌≤◌, Bool, true, false, Option, None, not, ◌&&◌, ◌||◌}
+use Rattle.std.specs.Prelude.{ℕ, ◌+◌, ◌-◌, ◌<◌, ◌≤◌, Bool, true, false, Option, None, not, ◌&&◌, ◌||◌, if◌then◌else◌}
 use Rattle.cf_layout.specs.Layout.{Plan, launch_stage, recover_stage, siding_of}
 use Rattle.cf_bind.specs.declared.moves.Move.{Move}
 use Rattle.cf_bind.specs.declared.moves.Move.TheVariants.{Issue, Emit, Climb, Fall, Meet, Execute, Send, Launch, Slide, Access, Recover, Leave, Exit, Serve}
@@ -53,6 +53,30 @@ marked marks i mark = record {
   launch = with_bit marks.launch (i - 1) mark.launch;
   recover = with_bit marks.recover (i - 1) mark.recover;
 }
+
+-- the words with one bit brought up to date: whether an operation can be launched from the stage; whether one can be
+-- recovered there
+abbrev pub with_launch : Plan → State → Marks → ℕ → Marks
+with_launch plan s marks i = record marks { launch = with_bit marks.launch (i - 1) (row_allows plan s (Launch i)) }
+
+abbrev pub with_recover : Plan → State → Marks → ℕ → Marks
+with_recover plan s marks i = record marks { recover = with_bit marks.recover (i - 1) (row_allows plan s (Recover i)) }
+
+-- both, for the stage from which a siding launches and the one at which it recovers
+abbrev pub resited : Plan → State → Marks → Touched → Marks
+resited plan s marks t = with_recover plan s (with_launch plan s marks t.low) t.high
+
+-- whether the instruction of the stage can be executed or launched
+abbrev pub readied : Plan → State → Marks → ℕ → Marks
+readied plan s marks i = with_launch plan s (record marks { execute = with_bit marks.execute (i - 1) (row_allows plan s (Execute i)) }) i
+
+-- after a meeting in the stage: the same, unless the instruction is dead; then all bits of the stage
+abbrev pub met_marks : Plan → State → Marks → ℕ → Marks
+met_marks plan s marks i = if rides s i (λ p. p.dead) then marked marks i (mark_at plan s i) else readied plan s marks i
+
+-- nothing can be done in the stage but to send what its instruction owes
+abbrev pub resting : State → ℕ → StageMark
+resting s i = record no_mark { owes = owes_at s i }
 
 -- one stage, as the low one and the high one
 abbrev pub one_stage : ℕ → Touched

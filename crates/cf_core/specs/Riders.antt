@@ -34,6 +34,10 @@ is_idle p = not (is_undone p) && not (is_out p)
 abbrev pub is_spent : Passenger → Bool
 is_spent p = is_idle p && not (is_some p.owes)
 
+-- it owes nothing, and has launched nothing
+abbrev pub is_new : Passenger → Bool
+is_new p = not (is_some p.owes) && not p.launched
+
 -- it has the values of its sources
 abbrev pub has_sources : Passenger → Bool
 has_sources p = not (is_some (first_unknown p))

@@ -14,7 +14,6 @@ ghost use Rattle.cf_core.specs.Stepping.{MakesOrFails, input_made, output_made};
 use crate::fault::Fault;
 use crate::marks::Marks;
 use crate::processor::Processor;
-use crate::touching::Touched;
 use cf_bind::{Guess, Move};
 use cf_io::{Sink, Source};
 use cf_semantics::Event;
@@ -29,9 +28,8 @@ impl Processor {
         ensures processor { self.new ≡ after_move self.old (mv.Issue guess) }
         ensures marks { marks.new ≡ marks_of self.new.plan self.new.state }
     {
-        let touched = Touched::alone(1);
         self.issue(guess);
-        self.remark(marks, touched);
+        self.mark_issued(marks);
     }
 
     /// Makes an allowed Execute, and marks its stage.
@@ -43,13 +41,13 @@ impl Processor {
         ensures processor { self.new ≡ after_move self.old (mv.Execute i) }
         ensures marks { marks.new ≡ marks_of self.new.plan self.new.state }
     {
-        let touched = Touched::alone(i);
         self.execute(i);
-        self.remark(marks, touched);
+        self.mark_resting(marks, i);
     }
 
     /// Makes an allowed Send, and marks its stage.
     #[inline(never)]
+    #[tactic(auto, using(crate::proofs::Sites::sending))]
     fn make_send(&mut self, marks: &mut Marks, i: u32)
         requires facts { IsProcessor self.old.plan self.old.state }
         requires allowed { row_bar self.old.plan self.old.state (mv.Send i) ≡ None }
@@ -57,9 +55,8 @@ impl Processor {
         ensures processor { self.new ≡ after_move self.old (mv.Send i) }
         ensures marks { marks.new ≡ marks_of self.new.plan self.new.state }
     {
-        let touched = Touched::alone(i);
         self.send(i);
-        self.remark(marks, touched);
+        marks.mark_sent(i);
     }
 
     /// Makes an allowed Meet, marks its stage unless the marks stay as they were, and returns what is seen of it.
@@ -73,29 +70,12 @@ impl Processor {
         ensures marks { marks.new ≡ marks_of self.new.plan self.new.state }
     {
         let keeps = self.keeps_marks(*marks, Move::Meet(i));
-        let touched = Touched::alone(i);
         let event = self.meet(i);
         if keeps {
             return event;
         }
-        self.remark(marks, touched);
+        self.mark_met(marks, i);
         event
-    }
-
-    /// Makes an allowed Fall or Emit by which a result comes to a stage with a Launch marked, and marks the stages that it touched.
-    #[inline(never)]
-    fn make_beside_launch(&mut self, marks: &mut Marks, m: Move)
-        requires facts { IsProcessor self.old.plan self.old.state }
-        requires allowed { row_bar self.old.plan self.old.state m ≡ None }
-        requires count { m ≡ mv.Leave → self.old.state.retired + 1 < 2 ^ 64 }
-        requires other { m ≢ mv.Serve }
-        requires marks { marks.old ≡ marks_of self.old.plan self.old.state }
-        ensures processor { self.new ≡ after_move self.old m }
-        ensures marks { marks.new ≡ marks_of self.new.plan self.new.state }
-    {
-        let touched = self.touched(m);
-        self.make_inside(m);
-        self.remark(marks, touched);
     }
 
     /// Makes an allowed Fall. It changes marks only where it bars a Launch.
@@ -108,10 +88,9 @@ impl Processor {
         ensures marks { marks.new ≡ marks_of self.new.plan self.new.state }
     {
         let keeps = self.keeps_marks(*marks, Move::Fall(i));
-        if keeps {
-            self.fall(i);
-        } else {
-            self.make_beside_launch(marks, Move::Fall(i));
+        self.fall(i);
+        if !keeps {
+            self.mark_beside_result(marks, i - 1);
         }
     }
 
@@ -125,10 +104,10 @@ impl Processor {
         ensures marks { marks.new ≡ marks_of self.new.plan self.new.state }
     {
         let keeps = self.keeps_marks(*marks, Move::Emit);
-        if keeps {
-            self.emit();
-        } else {
-            self.make_beside_launch(marks, Move::Emit);
+        let top = self.stages.count();
+        self.emit();
+        if !keeps {
+            self.mark_beside_result(marks, top);
         }
     }
 
@@ -141,9 +120,10 @@ impl Processor {
         ensures processor { self.new ≡ after_move self.old (mv.Launch i) }
         ensures marks { marks.new ≡ marks_of self.new.plan self.new.state }
     {
-        let touched = self.touched(Move::Launch(i));
+        let sites = self.touched(Move::Launch(i));
         self.launch(i);
-        self.remark(marks, touched);
+        self.mark_resting(marks, i);
+        self.mark_return(marks, sites);
     }
 
     /// Makes an allowed Slide, and marks the stages that it touched.
@@ -155,9 +135,9 @@ impl Processor {
         ensures processor { self.new ≡ after_move self.old (mv.Slide k c) }
         ensures marks { marks.new ≡ marks_of self.new.plan self.new.state }
     {
-        let touched = self.touched(Move::Slide(k, c));
+        let sites = self.touched(Move::Slide(k, c));
         self.slide(k, c);
-        self.remark(marks, touched);
+        self.mark_siding(marks, sites);
     }
 
     /// Makes an allowed Access, and marks the stages that it touched.
@@ -169,9 +149,9 @@ impl Processor {
         ensures processor { self.new ≡ after_move self.old mv.Access }
         ensures marks { marks.new ≡ marks_of self.new.plan self.new.state }
     {
-        let touched = self.touched(Move::Access);
+        let port = self.touched(Move::Access);
         self.access();
-        self.remark(marks, touched);
+        self.mark_return(marks, port);
     }
 
     /// Makes an allowed Recover, and marks the stages that it touched.
@@ -183,9 +163,10 @@ impl Processor {
         ensures processor { self.new ≡ after_move self.old (mv.Recover i) }
         ensures marks { marks.new ≡ marks_of self.new.plan self.new.state }
     {
-        let touched = self.touched(Move::Recover(i));
+        let sites = self.touched(Move::Recover(i));
         self.recover(i);
-        self.remark(marks, touched);
+        self.mark_resting(marks, i);
+        self.mark_entry(marks, sites);
     }
 
     /// Makes an allowed Leave, which changes no mark, and returns what is seen of it.

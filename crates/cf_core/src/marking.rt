@@ -1,15 +1,15 @@
 //! The marks of a stage, by what is there now.
 
-ghost use Rattle.std.specs.Prelude.{◌≡◌, None, Some, ◌<◌, ◌≤◌, true};
+ghost use Rattle.std.specs.Prelude.{◌≡◌, None, Some, ◌<◌, ◌≤◌, IsSome, true};
 ghost use Rattle.cf_layout.specs.Layout.{siding_of};
 ghost use Rattle.cf_semantics.specs.state.Passengers.{kind as kind_of_passenger};
 ghost use Rattle.cf_stages.specs.Changes.{passenger_at};
-ghost use Rattle.cf_core.specs.Marks.{mark_at, marked, Within, remarked as remarked_by};
+ghost use Rattle.cf_core.specs.Marks.{mark_at, marked, met_marks, readied, resting, Within, remarked as remarked_by};
 ghost use Rattle.cf_core.specs.Processors.{IsProcessor};
 ghost use Rattle.cf_core.specs.Riders.{StandsBeside, is_idle, is_undone as is_not_done};
 ghost use Rattle.cf_core.specs.Stations.{AreSidingStages, station_of};
 
-use crate::marks::{Marks, StageMark};
+use crate::marks::{Marks, StageMark, laid};
 use crate::processor::Processor;
 use crate::riding::{is_idle, is_undone};
 use crate::stations::{SidingStages, Station};
@@ -74,7 +74,7 @@ impl Processor {
     /// Brings the marks of this stage up to date, where this instruction, of a class with this siding, is.
     // It stays a call: most instructions are of a class without a siding, and what is done for those needs few registers.
     #[inline(never)]
-    fn mark_beside(
+    pub(crate) fn mark_beside(
         &self,
         marks: &mut Marks,
         passenger: &Passenger,
@@ -152,6 +152,28 @@ impl Processor {
         }
     }
 
+    /// Replaces the marks of this stage by those of one in which nothing is left to do but to send what its instruction owes.
+    #[inline(always)]
+    pub(crate) fn mark_resting(&self, marks: &mut Marks, i: u32)
+        requires above { 0 < i }
+        requires within { i ≤ self.now.plan.stages }
+        requires facts { IsProcessor self.now.plan self.now.state }
+        ensures { marks.new ≡ marked marks.old i (resting self.now.state i) }
+    {
+        self.know_stages();
+        let owes = match self.stages.passenger(i) {
+            Some(passenger) => passenger.owes.is_some(),
+            None => false,
+        };
+        marks.set(
+            i,
+            StageMark {
+                owes,
+                ..StageMark::of_none()
+            },
+        );
+    }
+
     /// Brings the marks of this stage up to date.
     #[inline(always)]
     #[tactic(auto, using(crate::proofs::Rides::mark_none))]
@@ -167,6 +189,50 @@ impl Processor {
             Some(passenger) if is_idle(passenger) => marks.set(i, self.mark_idle(passenger, i)),
             Some(passenger) => self.mark_any(marks, passenger, i),
             None => marks.set(i, StageMark::of_none()),
+        }
+    }
+
+    /// Brings up to date whether the instruction of the stage can be executed or launched.
+    #[inline(always)]
+    fn mark_ready(&self, marks: &mut Marks, passenger: &Passenger, i: u32)
+        requires above { 0 < i }
+        requires within { i ≤ self.now.plan.stages }
+        requires facts { IsProcessor self.now.plan self.now.state }
+        requires here { passenger_at self.now.state.cells i ≡ Some passenger.now }
+        ensures { marks.new ≡ readied self.now.plan self.now.state marks.old i }
+    {
+        self.know_stages();
+        let class = kind(passenger);
+        let station = self.station(class);
+        match &station.siding {
+            Some(site) => {
+                marks.execute = laid(marks.execute, i, false);
+                marks.launch = laid(marks.launch, i, self.launches(passenger, class, *site, i));
+            }
+            None => {
+                let executes = self.executes(passenger, is_undone(passenger), station.units, i);
+                marks.execute = laid(marks.execute, i, executes);
+                marks.launch = laid(marks.launch, i, false);
+            }
+        }
+    }
+
+    /// Brings the marks of this stage up to date after its instruction has met a result: unless it is dead now, only whether
+    /// it can be executed or launched.
+    // It stays a call: most meetings leave the marks as they are.
+    #[inline(never)]
+    pub(crate) fn mark_met(&self, marks: &mut Marks, i: u32)
+        requires above { 0 < i }
+        requires within { i ≤ self.now.plan.stages }
+        requires facts { IsProcessor self.now.plan self.now.state }
+        requires here { IsSome (passenger_at self.now.state.cells i) }
+        ensures { marks.new ≡ met_marks self.now.plan self.now.state marks.old i }
+    {
+        self.know_stages();
+        match self.stages.passenger(i) {
+            Some(passenger) if passenger.dead => self.mark_stage(marks, i),
+            Some(passenger) => self.mark_ready(marks, passenger, i),
+            None => unreachable!(),
         }
     }
 

@@ -1,7 +1,7 @@
 //! The marks: one word for each fact about the stages that is kept from one move to the next. Unlike the masks, which a caller
 //! sees, they say nothing of whether the processor goes on, and they are never read outside this crate.
 
-ghost use Rattle.std.specs.Prelude.{◌≡◌, ◌-◌, ◌<◌, ◌≤◌};
+ghost use Rattle.std.specs.Prelude.{◌≡◌, ◌-◌, ◌<◌, ◌≤◌, false};
 ghost use Rattle.cf_stages.specs.Words.{with_bit};
 ghost use Rattle.cf_core.specs.Marks.{no_mark, marked};
 
@@ -88,5 +88,15 @@ impl Marks {
         self.execute = laid(self.execute, i, mark.execute);
         self.launch = laid(self.launch, i, mark.launch);
         self.recover = laid(self.recover, i, mark.recover);
+    }
+
+    /// Marks that the instruction of the stage has sent what it owed.
+    #[inline(always)]
+    pub(crate) fn mark_sent(&mut self, i: u32)
+        requires above { 0 < i }
+        requires within { i ≤ 32 }
+        ensures { self.new ≡ record self.old { owes = with_bit self.old.owes (i - 1) false } }
+    {
+        self.owes = laid(self.owes, i, false);
     }
 }

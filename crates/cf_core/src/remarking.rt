@@ -1,6 +1,6 @@
 //! The marks after an instruction that owes nothing has climbed: of most stages that it can come to, little has changed.
 
-ghost use Rattle.std.specs.Prelude.{◌≡◌, None, Some, false};
+ghost use Rattle.std.specs.Prelude.{◌≡◌, None, Some, false, true};
 ghost use Rattle.cf_bind.specs.declared.moves.Move.TheVariants as mv;
 ghost use Rattle.cf_layout.specs.Layout.{last_stage, siding_of, unit_at};
 ghost use Rattle.cf_semantics.specs.state.Options.{on};
@@ -11,13 +11,13 @@ ghost use Rattle.cf_core.specs.Climbing.{HasClimbed};
 ghost use Rattle.cf_core.specs.Marks.{row_allows, remarked as remarked_by};
 ghost use Rattle.cf_core.specs.Masks.{stops_there};
 ghost use Rattle.cf_core.specs.Processors.{IsProcessor};
+ghost use Rattle.cf_core.specs.Riders.{StandsBeside};
 ghost use Rattle.cf_core.specs.Stations.{AreSidingStages, station_of};
 
 use crate::marks::{Marks, laid};
 use crate::processor::Processor;
 use crate::riding::is_undone;
 use crate::stations::{SidingStages, Station};
-use crate::touching::Touched;
 use cf_bind::Passenger;
 use cf_stages::with_bit;
 use rv_inst::Class;
@@ -52,29 +52,54 @@ impl Processor {
         marks.execute = laid(left, j, executes);
     }
 
-    /// The same for an instruction of a class with this siding.
-    #[inline(always)]
-    #[tactic(auto, using(crate::proofs::ClimbMarks::unstopped))]
-    fn mark_siding_climbed(
+    /// The same where its operation is to be launched or recovered in stage j. Its class has a siding, and so no units.
+    // It stays a call: an instruction comes to two such stages at most.
+    #[inline(never)]
+    fn mark_stopped(
         &self,
         marks: &mut Marks,
         passenger: &Passenger,
-        units: u32,
+        class: Class,
         site: SidingStages,
         i: u32,
         j: u32,
     )
         requires facts { IsProcessor self.now.plan self.now.state }
         requires climbed { HasClimbed self.now.plan self.now.state marks.old i j }
-        requires here { passenger_at self.now.state.cells j ≡ Some passenger.now }
-        requires units { units ≡ word_of (unit_at self.now.plan (kind_of_passenger passenger.now)) self.now.plan.stages }
-        requires site { AreSidingStages self.now.plan (kind_of_passenger passenger.now) site }
+        requires stands { StandsBeside self.now.plan self.now.state passenger.now class site.number j }
+        requires site { AreSidingStages self.now.plan class site }
+        requires stops { stops_there self.now.plan self.now.state j ≡ true }
+        ensures { marks.new ≡ remarked_by self.now.plan self.now.state marks.old (record { low = i; high = j }) }
+    {
+        self.know_stages();
+        marks.stops = laid(marks.stops, j, true);
+        marks.execute = with_bit(marks.execute, i, false);
+        marks.launch = laid(marks.launch, j, self.launches(passenger, class, site, j));
+        marks.recover = laid(marks.recover, j, self.recovers(passenger, class, site, j));
+    }
+
+    /// The same for an instruction of a class with this siding.
+    #[inline(always)]
+    fn mark_siding_climbed(
+        &self,
+        marks: &mut Marks,
+        passenger: &Passenger,
+        class: Class,
+        site: SidingStages,
+        i: u32,
+        j: u32,
+    )
+        requires facts { IsProcessor self.now.plan self.now.state }
+        requires climbed { HasClimbed self.now.plan self.now.state marks.old i j }
+        requires stands { StandsBeside self.now.plan self.now.state passenger.now class site.number j }
+        requires site { AreSidingStages self.now.plan class site }
         ensures { marks.new ≡ remarked_by self.now.plan self.now.state marks.old (record { low = i; high = j }) }
     {
         if self.stops_at_siding(passenger, site, j) {
-            self.remark(marks, Touched { low: i, high: j });
+            self.mark_stopped(marks, passenger, class, site, i, j);
         } else {
-            self.mark_climbed(marks, passenger, units, false, i, j);
+            self.know_stages();
+            marks.execute = with_bit(marks.execute, i, false);
         }
     }
 
@@ -112,7 +137,7 @@ impl Processor {
         let passenger = self.stages.passenger_there(j);
         let station = self.station(class);
         match station.siding {
-            Some(site) => self.mark_siding_climbed(marks, passenger, station.units, site, i, j),
+            Some(site) => self.mark_siding_climbed(marks, passenger, class, site, i, j),
             None => self.mark_units_climbed(marks, passenger, station, i, j),
         }
     }

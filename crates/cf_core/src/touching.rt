@@ -51,8 +51,11 @@ impl Processor {
         let Some(passenger) = self.stages.passenger(i) else {
             return Touched::alone(i);
         };
-        match self.layout.siding_of(kind(passenger)) {
-            Some(k) => self.sites(k),
+        match self.station(kind(passenger)).siding {
+            Some(site) => Touched {
+                low: site.launch,
+                high: site.recover,
+            },
             None => Touched::alone(i),
         }
     }

@@ -1,22 +1,22 @@
--- The words are brought up to date at the stages that the move touches.
+-- Only the lowest stage is marked, where nothing was marked before.
 use Rattle.std.proofs.Common.{◌∙◌}
 use Rattle.cf_bind.specs.declared.moves.Move.TheVariants.{Issue}
-use Rattle.cf_core.specs.Marks.{touched}
-use Rattle.cf_core.proofs.Made.{facts-after, marks-after, within-after}
+use Rattle.cf_core.proofs.IssueMarks.{issue-marks, issue-new, issue-unmarked}
+use Rattle.cf_core.proofs.Made.{facts-after}
 use Rattle.cf_core.proofs.processor.Processor.make_issue.Goals as goal
 
-pub remark-requires-clause-within : goal.remark-requires-clause-within
-unfolding touched
-remark-requires-clause-within c =
-    within-after c.args.self.now c.issue.new.self (Issue c.args.guess) c.alone-touched.result
-    c.requires.facts c.requires.allowed c.issue.ensures c.alone-touched.ensures
-
-pub remark-requires-clause-facts : goal.remark-requires-clause-facts
-remark-requires-clause-facts c =
+pub mark_issued-requires-clause-facts : goal.mark_issued-requires-clause-facts
+mark_issued-requires-clause-facts c =
     facts-after c.args.self.now c.issue.new.self (Issue c.args.guess) c.requires.facts c.requires.allowed c.issue.ensures
 
+pub mark_issued-requires-clause-new : goal.mark_issued-requires-clause-new
+mark_issued-requires-clause-new c = issue-new c.args.self.now c.issue.new.self c.args.guess c.requires.facts c.requires.allowed c.issue.ensures
+
+pub mark_issued-requires-clause-unmarked : goal.mark_issued-requires-clause-unmarked
+mark_issued-requires-clause-unmarked c =
+    issue-unmarked c.args.self.now.plan c.args.self.now.state c.args.marks.now c.args.guess c.requires.facts c.requires.allowed c.requires.marks
+
 pub returns-clause-marks : goal.returns-clause-marks
-unfolding touched
 returns-clause-marks c =
-    c.remark.ensures ∙ marks-after c.args.self.now c.issue.new.self c.args.marks.now (Issue c.args.guess) c.alone-touched.result c.requires.facts
-    c.requires.allowed c.issue.ensures c.requires.marks c.alone-touched.ensures
+    c.mark_issued.ensures ∙ issue-marks c.args.self.now c.issue.new.self c.args.marks.now c.args.guess c.requires.facts c.requires.allowed c.issue.ensures
+    c.requires.marks

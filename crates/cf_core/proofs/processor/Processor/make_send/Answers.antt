@@ -1,22 +1,9 @@
--- The words are brought up to date at the stages that the move touches.
+-- The instruction owes nothing any more.
 use Rattle.std.proofs.Common.{◌∙◌}
-use Rattle.cf_bind.specs.declared.moves.Move.TheVariants.{Send}
-use Rattle.cf_core.specs.Marks.{touched}
-use Rattle.cf_core.proofs.Made.{facts-after, marks-after, within-after}
+use Rattle.cf_core.proofs.MoveWords.{send-marks}
 use Rattle.cf_core.proofs.processor.Processor.make_send.Goals as goal
 
-pub remark-requires-clause-within : goal.remark-requires-clause-within
-unfolding touched
-remark-requires-clause-within c =
-    within-after c.args.self.now c.send.new.self (Send c.args.i) c.alone-touched.result
-    c.requires.facts c.requires.allowed c.send.ensures c.alone-touched.ensures
-
-pub remark-requires-clause-facts : goal.remark-requires-clause-facts
-remark-requires-clause-facts c =
-    facts-after c.args.self.now c.send.new.self (Send c.args.i) c.requires.facts c.requires.allowed c.send.ensures
-
 pub returns-clause-marks : goal.returns-clause-marks
-unfolding touched
 returns-clause-marks c =
-    c.remark.ensures ∙ marks-after c.args.self.now c.send.new.self c.args.marks.now (Send c.args.i) c.alone-touched.result c.requires.facts
-    c.requires.allowed c.send.ensures c.requires.marks c.alone-touched.ensures
+    c.mark_sent.ensures ∙ send-marks c.args.self.now c.send.new.self c.args.marks.now c.args.i c.requires.facts c.requires.allowed c.send.ensures
+    c.requires.marks

@@ -1,8 +1,5 @@
 -- The siding in the table is that of the class of the instruction.
-use Rattle.std.proofs.Common.{◌≡◌, Some, subst}
-use Rattle.rv_inst.specs.declared.classes.Class.{Class}
-use Rattle.cf_layout.specs.Layout.{siding_of}
-use Rattle.cf_core.proofs.Tabled.{found-site}
+use Rattle.cf_core.proofs.Tabled.{found-site, stands-beside}
 use Rattle.cf_core.proofs.processor.Processor.mark_rider.Goals as goal
 
 pub mark_beside-requires-clause-site : goal.mark_beside-requires-clause-site
@@ -11,11 +8,5 @@ mark_beside-requires-clause-site c = found-site c.args.self.now.plan c.kind-clas
 
 pub mark_beside-requires-clause-stands : goal.mark_beside-requires-clause-stands
 mark_beside-requires-clause-stands c =
-    let site = mark_beside-requires-clause-site c in (
-      c.requires.above,
-      c.requires.within,
-      c.requires.here,
-      c.kind-class.ensures,
-      subst (λ (k : Class). siding_of c.args.self.now.plan k ≡ Some c.in-Some.site.number) c.kind-class.ensures site.siding,
-      site.inside,
-    )
+    stands-beside c.args.self.now.plan c.args.self.now.state c.args.passenger.now c.kind-class.result c.station-station.result.now c.in-Some.site c.args.i
+    c.requires.above c.requires.within c.requires.here c.kind-class.ensures c.station-station.ensures c.in-Some.is
