@@ -4,3 +4,4 @@ pub mod Kept
 pub mod Classes
 pub mod Computing
 pub mod Permitted
+pub mod FromTemplates

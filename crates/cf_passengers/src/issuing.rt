@@ -60,7 +60,7 @@ pub fn fetched(isa: Isa, mem: &Regions, pc: u32) -> Result<Instr, End>
 
 /// A source, with the cached value of its register, if there is one.
 #[inline(always)]
-fn source(ends: &Ends, reg: u8) -> Option<Binding>
+pub(crate) fn source(ends: &Ends, reg: u8) -> Option<Binding>
     requires { reg < 32 }
     ensures { result ≡ source_of ends.now.cache (register reg) }
 {
@@ -76,7 +76,7 @@ fn source(ends: &Ends, reg: u8) -> Option<Binding>
 
 /// A destination, whose value is not known yet.
 #[inline(always)]
-fn destination(rd: u8) -> Option<Binding>
+pub(crate) fn destination(rd: u8) -> Option<Binding>
     ensures { result ≡ destination_of (register rd) }
 {
     if rd == 0 {

@@ -10,6 +10,7 @@ pub mod loose;
 mod reading;
 mod retiring;
 mod stopping;
+mod templates;
 
 pub use asking::{RequestedSources, requests};
 pub use finishing::{answered, finish, quits, recover, trap};
@@ -19,3 +20,4 @@ pub use launching::{launch_trap, operation};
 pub use reading::{first_missing, instruction, kind, missing, value_in};
 pub use retiring::{leaving, retirement};
 pub use stopping::{launches, recovers, stops_at};
+pub use templates::{Template, Templates};
