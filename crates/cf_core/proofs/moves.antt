@@ -5,8 +5,9 @@ pub mod KeptStages
 pub mod KeptEnds
 pub mod KeptSidings
 pub mod KeptMoves
+pub mod KeptCalls
 pub mod KeptServe
-pub mod Issuing
+pub mod KeptTemplates
 pub mod Guesses
 pub mod Meetings
 pub mod Riding

@@ -13,15 +13,10 @@ use Rattle.cf_semantics.specs.state.State.{State}
 use Rattle.cf_semantics.specs.state.Layouts.{isa_of}
 use Rattle.cf_semantics.specs.state.Passengers.{forgets, fresh, reg_in}
 use Rattle.cf_semantics.specs.moves.Moves.{keeps, turned, written}
-use Rattle.cf_stages.specs.Changes.{changed, with_new_passenger}
 
 -- the instruction that is issued at an address with a guess
 abbrev pub issued_at : Plan → State → ℕ → Guess → Passenger
 issued_at plan s pc g = fresh s.cache (fetched (isa_of plan) s.mem pc) pc g
-
--- it is in the lowest stage, where it has met nothing
-abbrev pub entered : Plan → State → ℕ → Guess → State
-entered plan s pc g = record s { cells = changed s.cells 1 (with_new_passenger (Some (issued_at plan s pc g))) }
 
 -- these registers are requested, after all others
 abbrev pub requested : State → List ℕ → State

@@ -85,7 +85,7 @@ impl Processor {
     }
 
     /// The old bytes of memory.
-    #[tactic(auto, using(crate::proofs::Widths::widths))]
+    #[tactic(auto, using(crate::proofs::Widths::widths, crate::proofs::moves::KeptTemplates::putting_back))]
     fn put_number(&mut self, number: Option<OldNumber>)
         ensures { self.new ≡ with_memory self.old (bytes_back (number_kept number) self.old.state.mem) }
     {

@@ -24,7 +24,7 @@ use cf_bind::{Bar, Cell, End, Fetch, Move, Op};
 use cf_ends::Ends;
 use cf_io::{Sink, Source};
 use cf_layout::Layout;
-use cf_passengers::isa_of;
+use cf_passengers::{Templates, isa_of};
 use cf_semantics::Event;
 use cf_sidings::Sidings;
 use cf_stages::Stages;
@@ -62,7 +62,7 @@ impl Model for Core {
 impl Core {
     /// An empty processor of this layout: it fetches at the program counter of the machine and has its registers,
     /// memory and retired count. If there is no memory for its parts, the machine is dropped.
-    #[tactic(auto, using(crate::proofs::Opened::opening), unfolding(crate::specs::Processors::opened_processor, cf_semantics::specs::runs::Runs::opened, cf_sidings::specs::Sidings::empty_sidings))]
+    #[tactic(auto, using(crate::proofs::Opened::opening, crate::proofs::moves::KeptTemplates::forgetting), unfolding(crate::specs::Processors::opened_processor, cf_semantics::specs::runs::Runs::opened, cf_sidings::specs::Sidings::empty_sidings))]
     pub fn new(alloc: Global, layout: Layout, machine: Machine) -> Result<Core, AllocError>
         ensures { IfOk result (λ core. core ≡ opened_processor layout machine) }
     {
@@ -70,6 +70,7 @@ impl Core {
         let isa = isa_of(&layout);
         let stages = Stages::new(alloc, layout.stages())?;
         let sidings = Sidings::new(alloc, &layout)?;
+        let templates = Templates::new(alloc)?;
         let parts = machine.into_parts();
         let ends = Ends::new(alloc, parts.regs, parts.pc, layout.lane())?;
         Ok(Core {
@@ -81,6 +82,7 @@ impl Core {
                 sidings,
                 ends,
                 memory: parts.mem,
+                templates,
                 retired: parts.retired,
                 ending: None,
                 failed: false,

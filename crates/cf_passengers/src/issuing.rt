@@ -198,23 +198,12 @@ pub fn issue(p: &mut Passenger, ends: &Ends, fetched: Result<Instr, End>)
 }
 
 /// What is at the address of the blank `Passenger` is issued in its place, as by `issue`.
-// Inlined where Issue is made: what is read of it next, its sources and its destination, need not come from memory again.
-#[inline(always)]
-pub fn issue_at_once(p: &mut Passenger, ends: &Ends, isa: Isa, mem: &Regions)
-    requires { p.old ≡ blank_passenger p.old.pc p.old.guess }
-    ensures passenger { p.new ≡ fresh_passenger ends.now.cache (what_is_fetched isa mem.now p.old.pc) p.old.pc p.old.guess }
-    ensures facts { IsPassenger isa p.new }
-{
-    let fetched = fetched(isa, mem, p.pc);
-    issue(p, ends, fetched);
-}
-
-/// The same by a call, for those who only ask what would be issued.
 #[inline(never)]
 pub fn fetch_and_issue(p: &mut Passenger, ends: &Ends, isa: Isa, mem: &Regions)
     requires { p.old ≡ blank_passenger p.old.pc p.old.guess }
     ensures passenger { p.new ≡ fresh_passenger ends.now.cache (what_is_fetched isa mem.now p.old.pc) p.old.pc p.old.guess }
     ensures facts { IsPassenger isa p.new }
 {
-    issue_at_once(p, ends, isa, mem);
+    let fetched = fetched(isa, mem, p.pc);
+    issue(p, ends, fetched);
 }

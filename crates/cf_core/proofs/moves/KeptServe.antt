@@ -1,12 +1,11 @@
 -- What holds of every processor is kept by Serve, whether it is made or fails.
-use Rattle.std.proofs.Common.{◌≡◌, ℕ, List, [], Option, Some, None, Bool, true, false, refl, sym, ap, subst, ◌∙◌, arith}
-use Rattle.std.specs.Prelude.{Result, Ok, Err, if◌then◌else◌, ◌==◌, not}
+use Rattle.std.proofs.Common.{◌≡◌, ℕ, List, [], Option, Some, None, true, refl, sym, ap, subst, ◌∙◌, arith}
+use Rattle.std.specs.Prelude.{Result, Ok, Err}
 use Rattle.mem_regions.specs.Memory.{Memory}
 use Rattle.mem_regions.specs.Access.{bounds_of}
-use Rattle.mem_regions.specs.Ranges.{range_of, can_write}
 use Rattle.mem_regions.proofs.Kept.{bounds-memory_with, bounds-synced}
 use Rattle.rv_inst.specs.declared.instruction.Instr.{Instr}
-use Rattle.rv_machine.specs.Call.{Called, Value, Exit, call, read, write, brk, write_from, with_break, is_break, is_exit, is_output, call_number, second_argument, third_argument}
+use Rattle.rv_machine.specs.Call.{Called, Value, Exit, second_argument, third_argument}
 use Rattle.rv_machine.specs.Step.{synchronizes}
 use Rattle.rv_machine.specs.Streams.{Streams}
 use Rattle.cf_layout.specs.Layout.{Plan}
@@ -31,53 +30,19 @@ use Rattle.cf_core.specs.declared.fault.Fault.{Fault}
 use Rattle.cf_core.specs.declared.fault.Fault.TheVariants as fault
 use Rattle.cf_semantics.specs.declared.event.Event.{Event}
 use Rattle.cf_core.proofs.moves.KeptMoves.{kept_moved}
+use Rattle.cf_core.proofs.moves.KeptCalls.{Keeps, IsLasting, call-keeps, either-keeps}
 use Rattle.cf_core.proofs.KeptParts.{cell-kept, kept_bounds, stage-at}
 use Rattle.cf_core.proofs.moves.KeptStages.{passenger-changed, passenger-in}
 use Rattle.cf_core.proofs.Steps.{next_moved}
 
--- an answer leaves the regions' bounds and flags as they were
-abbrev Keeps : Memory → Called → Type 0
-Keeps mem (Value a) = bounds_of a.mem ≡ bounds_of mem
-Keeps mem (Exit status) = Unit {0}
-
-either : (mem : Memory) (b : Bool) (c d : Called) → Keeps mem c → Keeps mem d → Keeps mem (if b then c else d)
-either mem true c d h k = h
-either mem false c d h k = k
-
-read_keeps : (fd addr len : ℕ) (mem : Memory) (rest : List ℕ) → Keeps mem (read fd addr len mem rest)
-unfolding read
-read_keeps fd addr len mem rest = either mem (not (fd == 0)) _ _ refl (either mem (len == 0) _ _ refl
-    (either mem (not (can_write mem addr len)) _ _ refl (bounds-memory_with mem addr len _)))
-
-written_keeps : (o : Option (List ℕ)) (len : ℕ) (mem : Memory) (rest : List ℕ) → Keeps mem (write_from o len mem rest)
-written_keeps None len mem rest = refl
-written_keeps (Some bytes) len mem rest = refl
-
-write_keeps : (fd addr len : ℕ) (mem : Memory) (rest : List ℕ) → Keeps mem (write fd addr len mem rest)
-unfolding write
-write_keeps fd addr len mem rest = either mem (not (is_output fd)) _ _ refl (either mem (len == 0) _ _ refl
-    (written_keeps (range_of mem addr len) len mem rest))
-
-break_bounds : (b : Bool) (addr : ℕ) (mem : Memory) → bounds_of (if b then record mem { program_break = addr } else mem) ≡ bounds_of mem
+bounds-lasting : IsLasting bounds_of
 unfolding bounds_of
-break_bounds true addr mem = refl
-break_bounds false addr mem = refl
+bounds-lasting = record { writes = bounds-memory_with; break = λ m addr. refl }
 
-brk_keeps : (addr : ℕ) (mem : Memory) (rest : List ℕ) → Keeps mem (brk addr mem rest)
-unfolding with_break
-brk_keeps addr mem rest = break_bounds (is_break addr) addr mem
-
-call_keeps : (regs : List ℕ) (mem : Memory) (rest : List ℕ) → Keeps mem (call regs mem rest)
-unfolding call
-call_keeps regs mem rest =
-    either mem (call_number regs == 63) _ _ (read_keeps _ _ _ mem rest)
-    (either mem (call_number regs == 64) _ _ (write_keeps _ _ _ mem rest)
-    (either mem (is_exit (call_number regs)) _ _ tt
-    (either mem (call_number regs == 214) _ _ (brk_keeps _ mem rest) refl)))
-
-serve_keeps : (i : Instr) (regs : List ℕ) (mem : Memory) (rest : List ℕ) → Keeps mem (serve_of i regs mem rest)
+-- an answer leaves the regions' bounds and flags as they were
+serve_keeps : (i : Instr) (regs : List ℕ) (mem : Memory) (rest : List ℕ) → Keeps bounds_of mem (serve_of i regs mem rest)
 unfolding serve_of
-serve_keeps i regs mem rest = either mem (synchronizes i) _ _ (bounds-synced mem) (call_keeps regs mem rest)
+serve_keeps i regs mem rest = either-keeps bounds_of mem (synchronizes i) _ _ (bounds-synced mem) (call-keeps bounds_of bounds-lasting regs mem rest)
 
 -- a processor whose input or output has failed
 failed_kept : (plan : Plan) (s : State) → IsProcessor plan s → IsProcessor plan (record s { failed = true })
@@ -85,7 +50,7 @@ failed_kept plan s h = record { accepted = h.accepted; stages = h.stages; siding
 
 -- the instruction in the highest stage has its answer, or it will end the program
 served_kept : (plan : Plan) (m : Moment) (n : ℕ) (c : Cell) (p : Passenger) (o : Called) → IsProcessor plan m.state → IsCellOfSet (isa_of plan) c →
-    IsPassenger (isa_of plan) p → Keeps m.state.mem o → IsProcessor plan (served m n c p o).state
+    IsPassenger (isa_of plan) p → Keeps bounds_of m.state.mem o → IsProcessor plan (served m n c p o).state
 served_kept plan m n c p (Value a) h stage rider keeps =
     kept_bounds plan (with_cell m.state n (with_passenger c (moves.answered p a.value))) a.mem
     (cell-kept plan m.state n (with_passenger c (moves.answered p a.value)) h (passenger-changed (isa_of plan) c (moves.answered p a.value) stage

@@ -50,7 +50,7 @@ impl Processor {
 
     /// The load or store at the end of Memory's siding is made and answered.
     #[inline(never)]
-    #[tactic(auto, using(crate::proofs::Ported::ported), unfolding(cf_sidings::specs::Sidings::after_access, cf_sidings::specs::Sidings::mem_after_access, cf_semantics::specs::moves::Moves::moved))]
+    #[tactic(auto, using(crate::proofs::Ported::ported, crate::proofs::moves::KeptTemplates::accessing), unfolding(cf_sidings::specs::Sidings::after_access, cf_sidings::specs::Sidings::mem_after_access, cf_semantics::specs::moves::Moves::moved))]
     pub(crate) fn access(&mut self)
         requires facts { IsProcessor self.old.plan self.old.state }
         requires allowed { row_bar self.old.plan self.old.state mv.Access ≡ None }

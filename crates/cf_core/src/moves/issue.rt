@@ -1,16 +1,20 @@
 //! Issue: an instruction enters the lowest stage, with a guess of the address at which fetch goes on.
 
-ghost use Rattle.std.specs.Prelude.{◌≡◌, ◌+◌, ◌≤◌, IfSome, length, None};
+ghost use Rattle.std.specs.Prelude.{◌≡◌, ◌+◌, ◌≤◌, IfSome, length, None, Some};
 ghost use Rattle.cf_bind.specs.declared.moves.Move.TheVariants as mv;
 ghost use Rattle.cf_bind.specs.declared.packet.Fetch.TheVariants as fetching;
 ghost use Rattle.cf_bind.specs.declared.passenger.Guess.TheVariants as guess;
 ghost use Rattle.cf_semantics.specs.moves.Bars.{row_bar};
+ghost use Rattle.cf_semantics.specs.moves.Instructions.{fetched as what_is_fetched};
 ghost use Rattle.cf_semantics.specs.moves.Moves.{fetch_from as fetch_there};
 ghost use Rattle.cf_semantics.specs.state.Layouts.{isa_of as set_of};
+ghost use Rattle.cf_semantics.specs.state.Passengers.{goto as goes_to};
 ghost use Rattle.cf_stages.specs.Changes.{passenger_at};
 ghost use Rattle.cf_passengers.specs.Facts.{IsPassenger, IsWritable, IsBinding};
+ghost use Rattle.cf_passengers.specs.Issuing.{meant};
+ghost use Rattle.cf_passengers.specs.Templates.{kept_for};
 ghost use Rattle.cf_passengers.specs.Waiting.{listed_one, listed};
-ghost use Rattle.cf_core.specs.Ends.{issued_at as issued_there, entered, requested, forgotten};
+ghost use Rattle.cf_core.specs.Ends.{issued_at as issued_there, requested, forgotten};
 ghost use Rattle.cf_core.specs.Marks.{row_allows};
 ghost use Rattle.cf_core.specs.Masks.{is_allowed};
 ghost use Rattle.cf_core.specs.Processors.{IsProcessor, in_state, after_move};
@@ -19,10 +23,11 @@ use crate::counterflow::Core;
 use crate::issuing::Issuable;
 use crate::processor::Processor;
 use crate::rows::first_of;
-use cf_bind::{Bar, Binding, Fetch, Guess, Passenger};
+use cf_bind::{Bar, Binding, End, Fetch, Guess, Passenger};
 use cf_passengers::{
-    RequestedSources, blank, fetch_and_issue, goto, issue_at_once, may_guess, requests,
+    RequestedSources, Template, blank, fetch_and_issue, goto, may_guess, requests,
 };
+use rv_inst::Instr;
 
 /// Fetch at the address; if there is none, fetch waits.
 #[inline(always)]
@@ -100,35 +105,69 @@ impl Processor {
         }
     }
 
-    /// The instruction at the address enters the lowest stage with the guess. It is put together there.
+    /// The instruction with this template, as it is issued at the address with the guess.
     #[inline(always)]
-    #[tactic(auto, using(crate::proofs::moves::Issuing::issuing))]
-    fn enter(&mut self, pc: u32, guess: Guess)
-        requires { row_bar self.old.plan self.old.state (mv.Issue guess) ≡ None }
-        ensures state { self.new ≡ in_state self.old (entered self.old.plan self.old.state pc guess) }
-        ensures facts { IsPassenger (set_of self.old.plan) (issued_there self.old.plan self.old.state pc guess) }
+    fn issued_by(&self, template: Template, pc: u32, guess: Guess) -> Passenger
+        requires { Some template ≡ kept_for pc (what_is_fetched (set_of self.now.plan) self.now.state.mem pc) }
+        ensures passenger { result ≡ issued_there self.now.plan self.now.state pc guess }
+        ensures facts { IsPassenger (set_of self.now.plan) result }
     {
-        self.stages.put_passenger(blank(pc, guess));
-        let passenger = self.stages.passenger_mut(1);
-        issue_at_once(passenger, &self.ends, self.isa, &self.memory);
+        template.passenger(&self.ends, pc, guess)
+    }
+
+    /// The instruction that is issued at the address with the guess enters the lowest stage, and fetch goes on after it.
+    #[inline(always)]
+    #[tactic(auto, unfolding(cf_semantics::specs::moves::Moves::moved))]
+    fn enter(&mut self, passenger: Passenger, pc: u32, guess: Guess, next: Option<u32>)
+        requires runs { self.old.state.fetch ≡ fetching.Running pc }
+        requires allowed { row_bar self.old.plan self.old.state (mv.Issue guess) ≡ None }
+        requires passenger { passenger ≡ issued_there self.old.plan self.old.state pc guess }
+        requires facts { IsPassenger (set_of self.old.plan) passenger }
+        requires next { next ≡ goes_to passenger }
+        ensures { self.new ≡ after_move self.old (mv.Issue guess) }
+    {
+        self.stages.put_passenger(passenger);
+        self.request(requests(&passenger));
+        self.forget(passenger.dst);
+        self.ends.set_fetch(fetch_at(next));
+    }
+
+    /// Issues an instruction that has a template.
+    #[inline(always)]
+    fn issue_by(&mut self, template: Template, pc: u32, guess: Guess)
+        requires runs { self.old.state.fetch ≡ fetching.Running pc }
+        requires allowed { row_bar self.old.plan self.old.state (mv.Issue guess) ≡ None }
+        requires template { Some template ≡ kept_for pc (what_is_fetched (set_of self.old.plan) self.old.state.mem pc) }
+        ensures { self.new ≡ after_move self.old (mv.Issue guess) }
+    {
+        let passenger = self.issued_by(template, pc, guess);
+        let next = template.goto(pc, guess);
+        self.enter(passenger, pc, guess, next);
+    }
+
+    /// Issues what has no template: a trap, or an instruction that is done as soon as it is issued.
+    #[inline(never)]
+    fn issue_done(&mut self, pc: u32, guess: Guess)
+        requires runs { self.old.state.fetch ≡ fetching.Running pc }
+        requires allowed { row_bar self.old.plan self.old.state (mv.Issue guess) ≡ None }
+        ensures { self.new ≡ after_move self.old (mv.Issue guess) }
+    {
+        let passenger = self.issued_at(pc, guess);
+        let next = goto(&passenger);
+        self.enter(passenger, pc, guess, next);
     }
 
     /// A new instruction enters the lowest stage, and fetch goes on by the guess.
     #[inline(never)]
-    #[tactic(auto, using(crate::proofs::moves::Issuing::issued), unfolding(cf_semantics::specs::moves::Moves::moved))]
     pub(crate) fn issue(&mut self, guess: Guess)
         requires { row_bar self.old.plan self.old.state (mv.Issue guess) ≡ None }
         ensures { self.new ≡ after_move self.old (mv.Issue guess) }
     {
         if let Fetch::Running(pc) = self.ends.fetch() {
-            self.enter(pc, guess);
-            let passenger = self.stages.passenger_there(1);
-            let asked = requests(passenger);
-            let destination = passenger.dst;
-            let place = goto(passenger);
-            self.request(asked);
-            self.forget(destination);
-            self.ends.set_fetch(fetch_at(place));
+            match self.templates.find(self.isa, &self.memory, pc) {
+                Some(template) => self.issue_by(template, pc, guess),
+                None => self.issue_done(pc, guess),
+            }
         }
     }
 
@@ -174,6 +213,17 @@ impl Processor {
 }
 
 impl Core {
+    /// The instruction at the address, or the trap of that address, as [`cf_passengers::fetched`] answers it.
+    #[inline(always)]
+    pub fn fetched_at(&self, pc: u32) -> Result<Instr, End>
+        ensures { meant result ≡ what_is_fetched (set_of self.now.plan) self.now.state.mem pc }
+    {
+        let processor = &self.processor;
+        processor
+            .templates
+            .fetched(processor.isa, &processor.memory, pc)
+    }
+
     /// The guesses that an instruction can be issued with. Nothing is decoded if the lowest stage is occupied.
     #[inline(always)]
     #[tactic(auto, using(crate::proofs::moves::Allows::allowing))]

@@ -98,14 +98,16 @@ impl Processor {
         }
     }
 
-    /// FENCE.I in the highest stage brings the code up to date with memory.
+    /// FENCE.I in the highest stage brings the code up to date with memory, and what was decoded is forgotten.
     #[inline(always)]
+    #[tactic(auto, using(crate::proofs::moves::KeptTemplates::forgetting))]
     fn synchronize(&mut self, stage: u32, passenger: Passenger)
         requires stage { stage ≡ self.old.plan.stages }
         requires here { passenger_at self.old.state.cells self.old.plan.stages ≡ Some passenger }
         ensures { self.new ≡ synchronized self.old passenger }
     {
         self.memory.sync_code();
+        self.templates.clear();
         *self.stages.passenger_mut(stage) = answered(passenger, 0);
     }
 

@@ -9,6 +9,7 @@ use Rattle.cf_semantics.specs.state.Passengers.{instruction}
 use Rattle.cf_stages.specs.Changes.{passenger_at}
 use Rattle.cf_core.specs.Places.{with_memory}
 use Rattle.cf_core.specs.Processors.{Processor}
+use Rattle.cf_core.proofs.moves.KeptTemplates.{templates-served}
 use Rattle.cf_core.proofs.moves.Served.{call-takes, fence-takes, serial-calls}
 use Rattle.cf_core.proofs.moves.Asked.{input-unasked, output-unasked}
 use Rattle.cf_core.proofs.processor.Processor.serve.Goals as goal
@@ -51,3 +52,14 @@ returns-in_default-instruction-clause-output g c = (
       (sym c.self.view_is) (output-unasked c.args.self.now c.in-Some.passenger here calls unasked) in
       c.serve-served.ensures.output_asked (rw c.regs.ensures.registers none),
 )
+
+-- the call leaves what is fetched, and so the templates
+pub invariant_of-self : goal.invariant_of-self
+invariant_of-self g c =
+    let before : Streams = streams_of (g.S.Source.left c.args.input.now) (g.K.Sink.written c.args.output.now) in
+    let after : Streams = streams_of (g.S.Source.left c.serve-served.new.input) (g.K.Sink.written c.serve-served.new.output) in
+    let kept = templates-served c.self.inside.isa c.self.inside.memory c.serve-served.new.mem c.self.inside.templates c.regs.result.now before after
+    c.serve-served.result c.serve-served.ensures.serves c.self.invariant.1.1.1 in (
+      c.self.invariant.0,
+      (c.self.invariant.1.0, (c.self.invariant.1.1.0, kept)),
+    )
