@@ -13,7 +13,6 @@ use crate::plainly::issues_any;
 use crate::stages::goes_on;
 use cf_bind::{Fetch, Guess};
 use cf_core::{Core, Issuable};
-use cf_passengers::fetched;
 use run_options::GuessRule;
 use rv_inst::Instr;
 
@@ -87,7 +86,7 @@ fn guess_at(core: &Core, rule: GuessRule) -> Guess
     ensures { result ≡ guess_at rule core.now.plan core.now.state }
 {
     match core.fetch() {
-        Fetch::Running(pc) => match fetched(core.isa(), core.memory(), pc) {
+        Fetch::Running(pc) => match core.fetched_at(pc) {
             Ok(i) => guess_of(rule, i),
             Err(_) => Guess::Next,
         },
@@ -181,7 +180,7 @@ fn issuable_by_kind(core: &Core) -> Issuable
     ensures wait { result.wait ≡ is_allowed core.now.plan core.now.state (mv.Issue guess.Wait) }
 {
     match core.fetch() {
-        Fetch::Running(pc) => match fetched(core.isa(), core.memory(), pc) {
+        Fetch::Running(pc) => match core.fetched_at(pc) {
             Ok(i) => Issuable {
                 next: true,
                 taken: is_direct_turn(i),

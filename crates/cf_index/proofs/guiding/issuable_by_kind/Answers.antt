@@ -4,25 +4,23 @@ use Rattle.cf_index.proofs.guiding.issuable_by_kind.Goals as goal
 
 pub returns-in-Ok-clause-taken : goal.returns-in-Ok-clause-taken
 returns-in-Ok-clause-taken c =
-    let got = rw (c.isa.ensures, c.memory.ensures) at (c.in-Ok.ensures.fetched) in
     c.is_direct_turn.ensures ∙ taken-by c.args.core.now.plan c.args.core.now.state c.in-Running.pc c.in-Ok.i c.requires
-    (sym c.fetch.ensures ∙ c.in-Running.is) (sym got)
+    (sym c.fetch.ensures ∙ c.in-Running.is) (sym c.in-Ok.ensures)
 
 pub returns-in-Ok-clause-wait : goal.returns-in-Ok-clause-wait
 returns-in-Ok-clause-wait c =
-    let got = rw (c.isa.ensures, c.memory.ensures) at (c.in-Ok.ensures.fetched) in
     c.is_turn.ensures ∙ wait-by c.args.core.now.plan c.args.core.now.state c.in-Running.pc c.in-Ok.i c.requires
-    (sym c.fetch.ensures ∙ c.in-Running.is) (sym got)
+    (sym c.fetch.ensures ∙ c.in-Running.is) (sym c.in-Ok.ensures)
 
 pub returns-in-Err-clause-taken : goal.returns-in-Err-clause-taken
 returns-in-Err-clause-taken c =
-    let got = rw (c.isa.ensures, c.memory.ensures) at (c.in-Err.ensures.fetched) in
-    (bad-by c.args.core.now.plan c.args.core.now.state c.in-Running.pc c.in-Err.field-0 c.requires (sym c.fetch.ensures ∙ c.in-Running.is) (sym got)).0
+    (bad-by c.args.core.now.plan c.args.core.now.state c.in-Running.pc c.in-Err.field-0 c.requires (sym c.fetch.ensures ∙ c.in-Running.is)
+    (sym c.in-Err.ensures)).0
 
 pub returns-in-Err-clause-wait : goal.returns-in-Err-clause-wait
 returns-in-Err-clause-wait c =
-    let got = rw (c.isa.ensures, c.memory.ensures) at (c.in-Err.ensures.fetched) in
-    (bad-by c.args.core.now.plan c.args.core.now.state c.in-Running.pc c.in-Err.field-0 c.requires (sym c.fetch.ensures ∙ c.in-Running.is) (sym got)).1
+    (bad-by c.args.core.now.plan c.args.core.now.state c.in-Running.pc c.in-Err.field-0 c.requires (sym c.fetch.ensures ∙ c.in-Running.is)
+    (sym c.in-Err.ensures)).1
 
 pub returns-in-Waiting-clause-taken : goal.returns-in-Waiting-clause-taken
 returns-in-Waiting-clause-taken c =
