@@ -196,14 +196,3 @@ pub fn issue(p: &mut Passenger, ends: &Ends, fetched: Result<Instr, End>)
         Err(end) => end_at_once(p, end),
     }
 }
-
-/// What is at the address of the blank `Passenger` is issued in its place, as by `issue`.
-#[inline(never)]
-pub fn fetch_and_issue(p: &mut Passenger, ends: &Ends, isa: Isa, mem: &Regions)
-    requires { p.old ≡ blank_passenger p.old.pc p.old.guess }
-    ensures passenger { p.new ≡ fresh_passenger ends.now.cache (what_is_fetched isa mem.now p.old.pc) p.old.pc p.old.guess }
-    ensures facts { IsPassenger isa p.new }
-{
-    let fetched = fetched(isa, mem, p.pc);
-    issue(p, ends, fetched);
-}

@@ -15,7 +15,7 @@ mod templates;
 pub use asking::{RequestedSources, requests};
 pub use finishing::{answered, finish, quits, recover, trap};
 pub use guessing::{goto, guessed, may_guess};
-pub use issuing::{blank, fetch_and_issue, fetched, isa_of, issue};
+pub use issuing::{blank, fetched, isa_of, issue};
 pub use launching::{launch_trap, operation};
 pub use reading::{first_missing, instruction, kind, missing, value_in};
 pub use retiring::{leaving, retirement};

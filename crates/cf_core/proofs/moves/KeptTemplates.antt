@@ -1,10 +1,13 @@
 -- What is kept of decoded instructions stays right until FENCE.I: no other move changes what is fetched. And what is issued
 -- by a template is what is issued by decoding again.
-use Rattle.std.proofs.Common.{◌≡◌, ◌∙◌, ℕ, List, Option, Some, None, refl, sym, ap, subst}
+use Rattle.std.proofs.Common.{◌≡◌, ◌∙◌, ℕ, List, Option, Some, None, Result, Ok, Err, refl, sym, ap, subst}
+use Rattle.std.specs.Prelude.{IfOk}
 use Rattle.mem_regions.specs.Memory.{Memory}
 use Rattle.mem_regions.specs.Fetching.{fetch_at}
 use Rattle.mem_regions.specs.Writing.{memory_with}
 use Rattle.mem_regions.proofs.Kept.{fetch_at-break, fetch_at-memory_with}
+use Rattle.rv_inst.specs.Ranges.{Fits}
+use Rattle.rv_inst.specs.declared.instruction.Instr.{Instr}
 use Rattle.rv_inst.specs.declared.isa.Isa.{Isa}
 use Rattle.rv_machine.specs.Acts.{Serves}
 use Rattle.rv_machine.specs.Call.{second_argument, third_argument}
@@ -13,6 +16,7 @@ use Rattle.rv_machine.specs.declared.outcome.Served.{Served}
 use Rattle.rv_machine.specs.declared.outcome.Served.TheVariants as answer
 use Rattle.cf_layout.specs.Layout.{Plan}
 use Rattle.cf_bind.specs.declared.cell.Op.{Op}
+use Rattle.cf_bind.specs.declared.passenger.End.{End}
 use Rattle.cf_bind.specs.declared.passenger.Guess.{Guess}
 use Rattle.cf_semantics.specs.moves.Bars.{last_op}
 use Rattle.cf_semantics.specs.moves.Instructions.{Fetched, fetched, mem_after}
@@ -24,6 +28,7 @@ use Rattle.theory_refinement.proofs.instructions.Fetches.{fetched_alike}
 use Rattle.theory_refinement.proofs.instructions.Steps.{code_after, fetched_is}
 use Rattle.cf_sidings.specs.Sidings.{mem_after_access}
 use Rattle.cf_passengers.specs.Facts.{IsFetched, IsInstruction, IsPassenger}
+use Rattle.cf_passengers.specs.Issuing.{meant}
 use Rattle.cf_passengers.specs.Templates.{AreTemplates, kept_for}
 use Rattle.cf_passengers.specs.declared.templates.Template.{Template}
 use Rattle.cf_passengers.proofs.Decoded.{decoded-instruction}
@@ -79,6 +84,17 @@ template-instruction isa m pc t e =
     let f = fetched_is isa m pc t.instr (kept-got pc (fetched isa m pc) t e) in
     decoded-instruction isa f.word t.instr f.read
 
+-- an instruction that is fetched is one of the set
+pub fetched-instruction : (isa : Isa) (m : Memory) (pc : ℕ) (r : Result Instr End) → meant r ≡ fetched isa m pc → IfOk r (IsInstruction isa)
+fetched-instruction isa m pc (Ok i) e =
+    let f = fetched_is isa m pc i (sym e) in
+    decoded-instruction isa f.word i f.read
+fetched-instruction isa m pc (Err end) e = tt
+
+pub fetched-fits : (isa : Isa) (m : Memory) (pc : ℕ) (r : Result Instr End) → meant r ≡ fetched isa m pc → IfOk r (λ i. Fits i)
+fetched-fits isa m pc (Ok i) e = (fetched-instruction isa m pc (Ok i) e).fits
+fetched-fits isa m pc (Err end) e = tt
+
 pub template-passenger : (plan : Plan) (s : State) (pc : ℕ) (g : Guess) (t : Template) → Some t ≡ kept_for pc (fetched (isa_of plan) s.mem pc) →
     fresh_undone s.cache t.instr pc g ≡ issued_at plan s pc g
 template-passenger plan s pc g t e = sym (kept-fresh pc (fetched (isa_of plan) s.mem pc) t s.cache g e)
@@ -95,3 +111,5 @@ pub ruleset accessing = (templates-accessed)
 pub ruleset putting_back = (templates-written)
 
 pub ruleset forgetting = (templates-empty)
+
+pub ruleset fetching = (fetched-instruction, fetched-fits)

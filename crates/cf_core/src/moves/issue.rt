@@ -24,9 +24,7 @@ use crate::issuing::Issuable;
 use crate::processor::Processor;
 use crate::rows::first_of;
 use cf_bind::{Bar, Binding, End, Fetch, Guess, Passenger};
-use cf_passengers::{
-    RequestedSources, Template, blank, fetch_and_issue, goto, may_guess, requests,
-};
+use cf_passengers::{RequestedSources, Template, blank, goto, issue, may_guess, requests};
 use rv_inst::Instr;
 
 /// Fetch at the address; if there is none, fetch waits.
@@ -42,13 +40,15 @@ fn fetch_at(place: Option<u32>) -> Fetch
 
 impl Processor {
     /// The instruction that is issued at the address with the guess.
-    #[inline(always)]
+    #[inline(never)]
+    #[tactic(auto, using(crate::proofs::moves::KeptTemplates::fetching))]
     pub(crate) fn issued_at(&self, pc: u32, guess: Guess) -> Passenger
         ensures passenger { result ≡ issued_there self.now.plan self.now.state pc guess }
         ensures facts { IsPassenger (set_of self.now.plan) result }
     {
+        let fetched = self.templates.fetched(self.isa, &self.memory, pc);
         let mut passenger = blank(pc, guess);
-        fetch_and_issue(&mut passenger, &self.ends, self.isa, &self.memory);
+        issue(&mut passenger, &self.ends, fetched);
         passenger
     }
 
