@@ -1,8 +1,10 @@
 //! What was decoded at each address, kept for the next issue there.
 
-ghost use Rattle.std.specs.Prelude.{◌≡◌, ◌<◌, ℕ, List, Option, IfOk, IsTrue, Some, length};
+ghost use Rattle.std.specs.Prelude.{◌≡◌, ◌<◌, ℕ, List, Option, IfOk, IfSome, IsTrue, Some, length};
 ghost use Rattle.std.specs.List.{All};
+ghost use Rattle.mem_regions.specs.Memory.{Memory};
 ghost use Rattle.rv_inst.specs.Ranges.{Fits};
+ghost use Rattle.rv_inst.specs.declared.isa.Isa.{Isa as InstructionSet};
 ghost use Rattle.cf_semantics.specs.moves.Instructions.{fetched as what_is_fetched};
 ghost use Rattle.cf_semantics.specs.state.Options.{is_some};
 ghost use Rattle.cf_semantics.specs.state.Passengers.{fresh_undone, goto as goes_to};
@@ -176,6 +178,20 @@ impl Templates {
         self.places[place_of(pc)].address == u64::from(pc)
     }
 
+    /// The template of the address, if there is one.
+    #[inline(always)]
+    pub fn get(&self, pc: u32) -> Option<Template>
+        ensures some { is_some result ≡ has_template self.now pc }
+        ensures found { (isa : InstructionSet) (mem : Memory) → AreTemplates isa mem self.now →
+            IfSome result (λ t. Some t ≡ kept_for pc (what_is_fetched isa mem pc)) }
+    {
+        if self.has(pc) {
+            Some(self.places[place_of(pc)])
+        } else {
+            None
+        }
+    }
+
     /// The instruction of the set at the address, or its trap, as `fetched` answers it. Nothing is decoded if there is a
     /// template of the address.
     #[inline(always)]
@@ -183,10 +199,9 @@ impl Templates {
         requires { AreTemplates isa mem.now self.now }
         ensures { meant result ≡ what_is_fetched isa mem.now pc }
     {
-        if self.has(pc) {
-            Ok(self.places[place_of(pc)].instr)
-        } else {
-            fetched_anew(isa, mem, pc)
+        match self.get(pc) {
+            Some(template) => Ok(template.instr),
+            None => fetched_anew(isa, mem, pc),
         }
     }
 

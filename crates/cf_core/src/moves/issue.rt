@@ -171,8 +171,30 @@ impl Processor {
         }
     }
 
-    /// The guesses that the row of Issue allows at this address, if the lowest stage is free. The instruction is the
-    /// same for all guesses, so it is decoded once.
+    /// The guesses that the row of Issue allows for the instruction at this address, if the lowest stage is free. It is given as it
+    /// would be issued with any of them.
+    #[inline(always)]
+    fn issuable_as(&self, passenger: &Passenger, pc: u32) -> Issuable
+        requires facts { IsProcessor self.now.plan self.now.state }
+        requires runs { self.now.state.fetch ≡ fetching.Running pc }
+        requires free { passenger_at self.now.state.cells 1 ≡ None }
+        requires passenger { passenger.now ≡ issued_there self.now.plan self.now.state pc guess.Next }
+        ensures next { result.next ≡ row_allows self.now.plan self.now.state (mv.Issue guess.Next) }
+        ensures taken { result.taken ≡ row_allows self.now.plan self.now.state (mv.Issue guess.Taken) }
+        ensures wait { result.wait ≡ row_allows self.now.plan self.now.state (mv.Issue guess.Wait) }
+    {
+        if self.layout.lane() < self.ends.lane_len() + requests(passenger).count() {
+            return Issuable::never();
+        }
+        Issuable {
+            next: true,
+            taken: may_guess(Guess::Taken, passenger),
+            wait: may_guess(Guess::Wait, passenger),
+        }
+    }
+
+    /// The guesses that the row of Issue allows at this address, if the lowest stage is free.
+    // Where the address has a template, only those parts of the instruction are made that the answer needs.
     #[inline(always)]
     fn issuable_at(&self, pc: u32) -> Issuable
         requires facts { IsProcessor self.now.plan self.now.state }
@@ -182,14 +204,9 @@ impl Processor {
         ensures taken { result.taken ≡ row_allows self.now.plan self.now.state (mv.Issue guess.Taken) }
         ensures wait { result.wait ≡ row_allows self.now.plan self.now.state (mv.Issue guess.Wait) }
     {
-        let passenger = self.issued_at(pc, Guess::Next);
-        if self.layout.lane() < self.ends.lane_len() + requests(&passenger).count() {
-            return Issuable::never();
-        }
-        Issuable {
-            next: true,
-            taken: may_guess(Guess::Taken, &passenger),
-            wait: may_guess(Guess::Wait, &passenger),
+        match self.templates.get(pc) {
+            Some(template) => self.issuable_as(&self.issued_by(template, pc, Guess::Next), pc),
+            None => self.issuable_as(&self.issued_at(pc, Guess::Next), pc),
         }
     }
 
