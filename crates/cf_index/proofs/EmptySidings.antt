@@ -1,7 +1,7 @@
 -- If no siding has an operation, no Slide, Access or Recover is allowed.
 use Rattle.std.proofs.Common.{◌≡◌, ◌∙◌, sym, refl, ap, ℕ, zero, suc, ◌+◌, ◌-◌, List, [], ◌∷◌, ◌++◌, map, Bool, true, false, Option, Some, None}
 use Rattle.std.specs.List.{list_any}
-use Rattle.std.specs.Prelude.{◌&&◌, ◌||◌, filter, find, not, slice_get}
+use Rattle.std.specs.Prelude.{◌&&◌, ◌||◌, filter, not, slice_get}
 use Rattle.std.proofs.lemmas.List.Elements.{filter-append}
 use Rattle.cf_layout.specs.Layout.{Plan, SidingPlan, siding_of}
 use Rattle.cf_bind.specs.declared.cell.Cell.{Cell}
@@ -18,10 +18,8 @@ use Rattle.cf_semantics.specs.state.Layouts.{port, recovers}
 use Rattle.cf_semantics.specs.state.Options.{is_some, on}
 use Rattle.cf_semantics.specs.state.Passengers.{kind}
 use Rattle.cf_semantics.specs.state.State.{State, cell_at, siding_at}
-use Rattle.cf_index.specs.declared.rank.Rank.{Rank}
 use Rattle.cf_index.specs.Allowed.{all_leaving, is_allowed}
 use Rattle.cf_index.specs.PickedFrom.{from_leave, outward_on}
-use Rattle.cf_index.specs.Ranks.{is_past}
 
 -- neither of two tests holds if not one of them does
 both_false : (a b : Bool) → (a || b) ≡ false → (a ≡ false) × (b ≡ false)
@@ -127,9 +125,7 @@ no_leaving plan s none =
     ∙ ap (λ (l : List Move). l ++ filter q ends) (mapped_off q Recover (counted_from 1 plan.stages) (λ i. recover_off plan s i none)) in
     rw (access_off plan s (none (port plan))) recovers
 
-pub idle_outward : (plan : Plan) (s : State) (r : Rank) → ((k : ℕ) → list_any is_some (siding_at s k) ≡ false) →
-    find (is_past r) (from_leave plan s) ≡ find (is_past r) (outward_on plan s)
+pub idle_outward : (plan : Plan) (s : State) → ((k : ℕ) → list_any is_some (siding_at s k) ≡ false) → from_leave plan s ≡ outward_on plan s
 unfolding from_leave
-idle_outward plan s r none =
-    ap (find (is_past r)) (sym (no_leaving plan s none))
-    ∙ ap (λ (l : List Move). find (is_past r) (l ++ filter (is_allowed plan s) (all_leaving plan))) (sym (no_slides plan s none))
+idle_outward plan s none =
+    sym (no_leaving plan s none) ∙ ap (λ (l : List Move). l ++ filter (is_allowed plan s) (all_leaving plan)) (sym (no_slides plan s none))

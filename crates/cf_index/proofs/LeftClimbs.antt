@@ -14,19 +14,14 @@ use Rattle.cf_semantics.specs.state.State.{State}
 use Rattle.theory_confluence.proofs.Laws.{move_local}
 use Rattle.cf_core.specs.Climbing.{ClimbsTo, climbed, climbs_on}
 use Rattle.cf_core.specs.Processors.{IsProcessor, Processor}
-use Rattle.cf_index.specs.declared.rank.Rank.{Rank}
 use Rattle.cf_index.specs.Alone.{HasSidings}
 use Rattle.cf_index.specs.Allowed.{is_allowed, word_allowed}
 use Rattle.cf_index.specs.Left.{AreLeft, IsLowest}
-use Rattle.cf_index.specs.Ranks.{rank_of}
 use Rattle.cf_index.specs.Sites.{shares, uses_place}
 use Rattle.cf_index.proofs.Independence.{bar_kept}
-use Rattle.cf_index.proofs.LeftStages.{IsByStage, barred_bit, free_as, left_again, left_before, moment_of, same_allowed}
+use Rattle.cf_index.proofs.LeftStages.{barred_bit, free_as, left_again, left_before, moment_of, same_allowed}
 use Rattle.cf_index.proofs.Rows.{climb_alone}
 use Rattle.cf_index.proofs.There.{has_sidings}
-
-pub climbs_by : IsByStage Climb
-climbs_by = record { number = 2; kinds = λ i. refl; places = λ i. refl }
 
 -- the state after one Climb more
 climbed_plan : (p : Processor) (i n : ℕ) → (climbed p i n).plan ≡ p.plan
@@ -80,11 +75,11 @@ none_between p i j k h to low high =
     sym (climbs_keep p i (k - i) (k + 1) h (λ n below. to.each n (omega (arith, below, low, high))) (omega (arith, z)))
     ∙ climb_alone p.plan (climbed p i (k - i)).state k free
 
-pub left_climbs : (p : Processor) (i j : ℕ) (r : Rank) (w v : ℕ) → IsLowest w i → ((k : ℕ) → has_bit v k ≡ (has_bit w k && not (nat_lt k i))) →
-    AreLeft p.plan p.state r Climb w → IsProcessor p.plan p.state → ClimbsTo p i j →
-    AreLeft p.plan (climbed p i (j - i)).state (rank_of (Climb (j - 1))) Climb v
-left_climbs p i j r w v lowest is left processor to =
-    left_again p.plan (climbed p i (j - i)).state Climb v (j - 1) climbs_by
+pub left_climbs : (p : Processor) (i j a w v : ℕ) → IsLowest w i → ((k : ℕ) → has_bit v k ≡ (has_bit w k && not (nat_lt k i))) →
+    AreLeft p.plan p.state a Climb w → IsProcessor p.plan p.state → ClimbsTo p i j →
+    AreLeft p.plan (climbed p i (j - i)).state (j - 1) Climb v
+left_climbs p i j a w v lowest is left processor to =
+    left_again p.plan (climbed p i (j - i)).state Climb v (j - 1)
     (λ k lower. below k (omega (arith, lower, to.higher)) (nat_lt k i) refl) (λ k above. here k above (nat_lt k j) refl)
   where
     h : HasSidings p.plan p.state
@@ -93,7 +88,7 @@ left_climbs p i j r w v lowest is left processor to =
     before : (k : ℕ) → i ≤ k → has_bit v k ≡ has_bit (word_allowed p.plan p.state Climb) k
     before k above =
         let past : nat_lt k i ≡ false = grind (arith, nat_tests) in
-        is k ∙ rw past (and-true (has_bit w k)) ∙ left_before p.plan p.state r Climb w i k climbs_by left lowest above
+        is k ∙ rw past (and-true (has_bit w k)) ∙ left_before p.plan p.state a Climb w i k left lowest above
 
     below : (k : ℕ) → k < j → (b : Bool) → nat_lt k i ≡ b → has_bit v k ≡ false
     below k lower true e = is k ∙ rw e (and-false (has_bit w k))

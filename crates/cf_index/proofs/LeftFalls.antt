@@ -11,19 +11,14 @@ use Rattle.cf_semantics.specs.state.State.{State}
 use Rattle.cf_core.specs.Masks.{masks_of}
 use Rattle.cf_core.specs.Processors.{IsProcessor}
 use Rattle.cf_core.specs.declared.masks.Masks.{Masks}
-use Rattle.cf_index.specs.declared.rank.Rank.{Rank}
 use Rattle.cf_index.specs.Allowed.{is_allowed, word_allowed}
 use Rattle.cf_index.specs.Left.{AreLeft, IsMadeAt}
-use Rattle.cf_index.specs.Ranks.{rank_of}
 use Rattle.cf_index.specs.Sites.{shares, uses_place}
 use Rattle.cf_index.specs.Words.{full_bit, goes_on}
 use Rattle.cf_index.proofs.Independence.{bar_kept}
-use Rattle.cf_index.proofs.LeftStages.{IsByStage, KeepsAbove, barred_bit, free_as, left_again, left_before, lowest_free, moment_of, same_allowed}
+use Rattle.cf_index.proofs.LeftStages.{KeepsAbove, barred_bit, free_as, left_again, left_before, lowest_free, moment_of, same_allowed}
 use Rattle.cf_index.proofs.Rows.{fall_alone, fallen_next}
 use Rattle.cf_index.proofs.There.{has_sidings}
-
-pub falls_by : IsByStage Fall
-falls_by = record { number = 3; kinds = λ i. refl; places = λ i. refl }
 
 -- a Fall changes nothing for one at a stage that is higher by two or more
 falls_keep : KeepsAbove Fall 1
@@ -31,27 +26,27 @@ unfolding shares uses_place next
 falls_keep plan s i j processor free apart = free_as plan s (moved plan s (Fall i)) (Fall j)
     (bar_kept plan (moment_of s) (Fall i) (Fall j) (has_sidings plan s processor) free tt refl refl (grind (arith, nat_tests)))
 
-pub left_falls : (plan : Plan) (old s : State) (m : Masks) (r : Rank) (w v i : ℕ) → IsProcessor plan old → IsMadeAt plan old s r Fall w i → goes_on s ≡ true →
+pub left_falls : (plan : Plan) (old s : State) (m : Masks) (a w v i : ℕ) → IsProcessor plan old → IsMadeAt plan old s a Fall w i → goes_on s ≡ true →
     m ≡ masks_of plan s → length s.cells ≡ plan.stages →
     ((k : ℕ) → has_bit v k ≡ ((has_bit w k && not (nat_lt k i)) || (nat_eq k i && (has_bit m.packets k && not (full_bit m k))))) →
-    AreLeft plan s (rank_of (Fall i)) Fall v
-left_falls plan old s m r w v i processor made on e same is =
-    left_again plan s Fall v i falls_by (λ k lower. is k ∙ off k lower) (λ k above. is k ∙ by k above (nat_eq k i) refl)
+    AreLeft plan s i Fall v
+left_falls plan old s m a w v i processor made on e same is =
+    left_again plan s Fall v i (λ k lower. is k ∙ off k lower) (λ k above. is k ∙ by k above (nat_eq k i) refl)
   where
     free : bar plan old (Fall i) ≡ None
-    free = lowest_free plan old r Fall w i made.left made.lowest
+    free = lowest_free plan old a Fall w i made.left made.lowest
 
     off : (k : ℕ) → k < i → ((has_bit w k && not (nat_lt k i)) || (nat_eq k i && (has_bit m.packets k && not (full_bit m k)))) ≡ false
     off k lower =
-        let a : nat_lt k i ≡ true = grind (arith, nat_tests) in
-        let b : nat_eq k i ≡ false = grind (arith, nat_tests) in
-        rw (a, b) (none (has_bit w k))
+        let below : nat_lt k i ≡ true = grind (arith, nat_tests) in
+        let other : nat_eq k i ≡ false = grind (arith, nat_tests) in
+        rw (below, other) (none (has_bit w k))
       where
         none : (b : Bool) → ((b && false) || false) ≡ false
         none b = grind arith
 
     before : (k : ℕ) → i ≤ k → has_bit w k ≡ has_bit (word_allowed plan old Fall) k
-    before k above = left_before plan old r Fall w i k falls_by made.left made.lowest above
+    before k above = left_before plan old a Fall w i k made.left made.lowest above
 
     by : (k : ℕ) → i ≤ k → (next : Bool) → nat_eq k i ≡ next →
         ((has_bit w k && not (nat_lt k i)) || (nat_eq k i && (has_bit m.packets k && not (full_bit m k)))) ≡ has_bit (word_allowed plan s Fall) k

@@ -88,12 +88,12 @@ end_gone r kind w new is e = rw (append-nil (at_word kind w)) at (word_gone r ki
 -- Where all come after, or none does --
 
 -- the first after is the first of all
-all_step : (p : Move → Bool) (b : Bool) (x : Move) (xs : List Move) → p x ≡ true → find p xs ≡ slice_get xs 0 →
+pub all_step : (p : Move → Bool) (b : Bool) (x : Move) (xs : List Move) → p x ≡ true → find p xs ≡ slice_get xs 0 →
     find p (cond b (x ∷ xs) xs) ≡ slice_get (cond b (x ∷ xs) xs) 0
 all_step p true x xs e rest = rw e refl
 all_step p false x xs e rest = rest
 
-all_map : (p q : Move → Bool) (f : ℕ → Move) (ks : List ℕ) → ((k : ℕ) → p (f k) ≡ true) → find p (filter q (map f ks)) ≡ slice_get (filter q (map f ks)) 0
+pub all_map : (p q : Move → Bool) (f : ℕ → Move) (ks : List ℕ) → ((k : ℕ) → p (f k) ≡ true) → find p (filter q (map f ks)) ≡ slice_get (filter q (map f ks)) 0
 all_map p q f [] after = refl
 all_map p q f (k ∷ ks) after = all_step p (q (f k)) (f k) (filter q (map f ks)) (after k) (all_map p q f ks after)
 
@@ -102,15 +102,15 @@ both_step : (p : Move → Bool) (x : Move) (xs ys : List Move) (b : Bool) → p 
 both_step p x xs ys true e at = refl
 both_step p x xs ys false e at = found_first p xs ys x at
 
-all_both : (p : Move → Bool) (xs ys : List Move) → find p xs ≡ slice_get xs 0 → find p ys ≡ slice_get ys 0 → find p (xs ++ ys) ≡ slice_get (xs ++ ys) 0
+pub all_both : (p : Move → Bool) (xs ys : List Move) → find p xs ≡ slice_get xs 0 → find p ys ≡ slice_get ys 0 → find p (xs ++ ys) ≡ slice_get (xs ++ ys) 0
 all_both p [] ys e f = f
 all_both p (x ∷ xs) ys e f = both_step p x xs ys (p x) refl e
 
-all_parts : (p q : Move → Bool) (xs ys : List Move) → find p (filter q xs) ≡ slice_get (filter q xs) 0 → find p (filter q ys) ≡ slice_get (filter q ys) 0 →
+pub all_parts : (p q : Move → Bool) (xs ys : List Move) → find p (filter q xs) ≡ slice_get (filter q xs) 0 → find p (filter q ys) ≡ slice_get (filter q ys) 0 →
     find p (filter q (xs ++ ys)) ≡ slice_get (filter q (xs ++ ys)) 0
 all_parts p q xs ys e f = rw (filter-append q xs ys) (all_both p (filter q xs) (filter q ys) e f)
 
-all_slides : (r : Rank) (q : Move → Bool) (k : ℕ) (sidings : List SidingPlan) → r.kind < slide_place →
+pub all_slides : (r : Rank) (q : Move → Bool) (k : ℕ) (sidings : List SidingPlan) → r.kind < slide_place →
     find (is_past r) (filter q (slides_from k sidings)) ≡ slice_get (filter q (slides_from k sidings)) 0
 all_slides r q k [] early = refl
 all_slides r q k (siding ∷ sidings) early =

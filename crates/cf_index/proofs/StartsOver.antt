@@ -22,15 +22,15 @@ use Rattle.cf_stages.specs.Changes.{passenger_at}
 use Rattle.cf_index.specs.declared.rank.Rank.{Rank}
 use Rattle.cf_index.specs.Allowed.{all_passing, allowed_issues, allowed_others, is_allowed, is_running, kept_issues, unheld_issues, withheld}
 use Rattle.cf_index.specs.GuessRules.{guided, keeps_move}
-use Rattle.cf_index.specs.Order.{first_after, kind_place, slide_place}
+use Rattle.cf_index.specs.Order.{first_after, is_after, kind_place, slide_place}
 use Rattle.cf_index.specs.PickedFrom.{IsLast, IsPicked, IsPickedFrom, from_climb, from_emit, outward_on}
-use Rattle.cf_index.specs.Ranks.{first_rank, is_past, rank_of}
+use Rattle.cf_index.specs.Ranks.{is_past, rank_of}
 use Rattle.cf_index.proofs.AllowedWords.{climb-on}
 use Rattle.cf_index.proofs.Firsts.{first_issue, others_are, unissued, wrapped}
 use Rattle.cf_index.proofs.Guided.{allowed-issue}
 use Rattle.cf_index.proofs.Others.{withheld_others}
 use Rattle.cf_index.proofs.PickedFrom.{last_is}
-use Rattle.cf_index.proofs.Ranks.{all_others, found_rank}
+use Rattle.cf_index.proofs.Ranks.{found_rank}
 
 -- No Issue --
 
@@ -106,16 +106,6 @@ from_emit_on : (plan : Plan) (s : State) → plan.stages ≤ 32 → from_emit pl
 unfolding from_emit from_climb
 from_emit_on plan s few = ap (λ (xs : List Move). filter (is_allowed plan s) (Emit ∷ []) ++ (xs ++ outward_on plan s)) (climb-on plan s few)
 
--- each of them comes after the first rank
-all_after : (p : Move → Bool) (b : Bool) (xs : List Move) → p Emit ≡ true → find p xs ≡ slice_get xs 0 →
-    find p (cond b (Emit ∷ []) [] ++ xs) ≡ slice_get (cond b (Emit ∷ []) [] ++ xs) 0
-all_after p true xs after rest = rw after refl
-all_after p false xs after rest = rest
-
-first_of_others : (plan : Plan) (s : State) → find (is_past first_rank) (allowed_others plan s) ≡ slice_get (allowed_others plan s) 0
-first_of_others plan s =
-    all_after (is_past first_rank) (is_allowed plan s Emit) _ refl (all_others first_rank (is_allowed plan s) plan (omega arith))
-
 -- none of them is an Issue
 head_step : (b : Bool) (x mv : Move) (ys : List Move) → is_issue x ≡ b → (slice_get ys 0 ≡ Some mv → is_issue mv ≡ false) →
     slice_get (cond (not b) (x ∷ ys) ys) 0 ≡ Some mv → is_issue mv ≡ false
@@ -156,21 +146,19 @@ none_of : {X : Type 0} (xs : List X) → slice_get xs 0 ≡ None → xs ≡ []
 none_of [] e = refl
 none_of (x ∷ xs) e = absurd (cc)
 
-first_there : (plan : Plan) (s : State) (o : Option Move) → plan.stages ≤ 32 → find (is_past first_rank) (from_emit plan s) ≡ o →
-    slice_get (allowed_others plan s) 0 ≡ o
-first_there plan s o few found = sym (first_of_others plan s) ∙ ap (find (is_past first_rank)) (sym (from_emit_on plan s few)) ∙ found
+first_there : (plan : Plan) (s : State) (o : Option Move) → plan.stages ≤ 32 → slice_get (from_emit plan s) 0 ≡ o → slice_get (allowed_others plan s) 0 ≡ o
+first_there plan s o few found = ap (λ (xs : List Move). slice_get xs 0) (sym (from_emit_on plan s few)) ∙ found
 
-none_others : (plan : Plan) (s : State) (last : Option Move) → plan.stages ≤ 32 → find (is_past first_rank) (from_emit plan s) ≡ None → IsLast plan s last
+none_others : (plan : Plan) (s : State) (last : Option Move) → plan.stages ≤ 32 → from_emit plan s ≡ [] → IsLast plan s last
 unfolding IsLast
-none_others plan s last few found = rw (none_of (allowed_others plan s) (first_there plan s None few found)) refl
+none_others plan s last few found = ap (find (is_after last)) (sym (from_emit_on plan s few) ∙ found)
 
 pub started : (rule : GuessRule) (held : Bool) (plan : Plan) (s : State) (last : Move) (r : Rank) → plan.stages ≤ 32 → r ≡ rank_of last →
     unheld_issues held rule plan s ≡ [] → r.kind ≢ slide_place → (r.kind ≢ 0 →
     find (is_past r) (filter (is_allowed plan s) (all_passing plan) ++ outward_on plan s) ≡ None) →
-    IsPickedFrom rule held plan s (Some last) first_rank (from_emit plan s)
+    IsPickedFrom rule held plan s (Some last) (from_emit plan s)
 unfolding IsPickedFrom
 started rule held plan s last r few stands none outside gone = record {
-  outside = λ e. absurd (omega (arith, e));
   here = λ mv found.
       let there : slice_get (allowed_others plan s) 0 ≡ Some mv = first_there plan s (Some mv) few found in
       let first = ap (λ (xs : List Move). slice_get xs 0) (offered_others rule held plan s mv none there) ∙ there in
@@ -181,10 +169,9 @@ started rule held plan s last r few stands none outside gone = record {
 -- the same holds after any move but an Issue that no other comes after
 pub restarted : (rule : GuessRule) (held : Bool) (plan : Plan) (s : State) (last : Move) → plan.stages ≤ 32 →
     unheld_issues held rule plan s ≡ [] → 1 ≤ kind_place last → IsLast plan s (Some last) →
-    IsPickedFrom rule held plan s (Some last) first_rank (from_emit plan s)
+    IsPickedFrom rule held plan s (Some last) (from_emit plan s)
 unfolding IsPickedFrom
 restarted rule held plan s last few none some over = record {
-  outside = λ e. absurd (omega (arith, e));
   here = λ mv found.
       let there : slice_get (allowed_others plan s) 0 ≡ Some mv = first_there plan s (Some mv) few found in
       let first = ap (λ (xs : List Move). slice_get xs 0) (offered_others rule held plan s mv none there) ∙ there in
@@ -234,6 +221,6 @@ none_offered rule plan s held o free first is = rw free (none_of (kept_issues ru
 
 pub issue_none : (rule : GuessRule) (held : Bool) (plan : Plan) (s : State) (last : Move) (o : Option Move) → plan.stages ≤ 32 → held ≡ false →
     o ≡ slice_get (kept_issues rule plan s) 0 → o ≡ None → 1 ≤ kind_place last → IsLast plan s (Some last) →
-    IsPickedFrom rule held plan s (Some last) first_rank (from_emit plan s)
+    IsPickedFrom rule held plan s (Some last) (from_emit plan s)
 issue_none rule held plan s last o few free first is some over =
     restarted rule held plan s last few (none_offered rule plan s held o free first is) some over

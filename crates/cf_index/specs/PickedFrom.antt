@@ -1,17 +1,16 @@
 -- A sweep lists what is allowed from one kind of move on. Its first move is the next pick of a rule that goes round in
 -- the order of all moves; if it has none, no move but an Issue comes after the last pick.
-use Rattle.std.specs.Prelude.{◌≡◌, ◌≢◌, List, [], ◌∷◌, ◌++◌, Bool, Option, Some, None, filter, find, slice_get}
+use Rattle.std.specs.Prelude.{◌≡◌, ℕ, List, [], ◌∷◌, ◌++◌, Bool, Option, Some, None, filter, find, slice_get}
 use Rattle.run_options.specs.declared.guess_rule.GuessRule.{GuessRule}
 use Rattle.cf_layout.specs.Layout.{Plan}
 use Rattle.cf_bind.specs.declared.moves.Move.{Move}
 use Rattle.cf_bind.specs.declared.moves.Move.TheVariants.{Emit, Exit, Leave, Recover, Serve}
 use Rattle.cf_semantics.specs.moves.Candidates.{at_stages, slides_from}
 use Rattle.cf_semantics.specs.state.State.{State}
-use Rattle.cf_index.specs.declared.rank.Rank.{Rank}
 use Rattle.cf_index.specs.Allowed.{all_leaving, allowed_others, climb_on, execute_on, fall_on, is_allowed, launch_on, meet_on, send_on, withheld}
 use Rattle.cf_index.specs.GuessRules.{guided}
-use Rattle.cf_index.specs.Order.{first_after, is_after, slide_place}
-use Rattle.cf_index.specs.Ranks.{is_past}
+use Rattle.cf_index.specs.Listed.{at_word}
+use Rattle.cf_index.specs.Order.{first_after, is_after}
 
 -- what is allowed of the kinds after those over the stages
 abbrev pub outward_on : Plan → State → List Move
@@ -56,6 +55,14 @@ from_exit plan s = filter (is_allowed plan s) (Exit ∷ Serve ∷ [])
 unfoldable pub from_serve : Plan → State → List Move
 from_serve plan s = filter (is_allowed plan s) (Serve ∷ [])
 
+-- after Serve there is no kind left
+abbrev pub from_end : Plan → State → List Move
+from_end plan s = []
+
+-- the moves of a kind at the stages of a word, and what is allowed of the kinds after it
+abbrev pub left_then : (ℕ → Move) → ℕ → (beyond : Plan → State → List Move) → Plan → State → List Move
+left_then kind w beyond plan s = at_word kind w ++ beyond plan s
+
 -- no allowed move but an Issue comes after the last pick
 unfoldable pub IsLast : Plan → State → (last : Option Move) → Type 0
 IsLast plan s last = find (is_after last) (allowed_others plan s) ≡ None
@@ -64,12 +71,10 @@ IsLast plan s last = find (is_after last) (allowed_others plan s) ≡ None
 abbrev pub IsPicked : GuessRule → (held : Bool) → Plan → State → (last : Option Move) → Move → Type 0
 IsPicked rule held plan s last mv = slice_get (withheld held (guided rule plan s)) (first_after last (withheld held (guided rule plan s))) ≡ Some mv
 
--- the first of these moves past the rank, which is not that of a Slide, is picked after the last pick; if there is
--- none, no move but an Issue comes after it
-pub record FindsPick (rule : GuessRule) (held : Bool) (plan : Plan) (s : State) (last : Option Move) (r : Rank) (moves : List Move) : Type 0 where
-  pub outside : r.kind ≢ slide_place
-  pub here : (mv : Move) → find (is_past r) moves ≡ Some mv → IsPicked rule held plan s last mv
-  pub gone : find (is_past r) moves ≡ None → IsLast plan s last
+-- the first of these moves is picked after the last pick; if there is none, no move but an Issue comes after it
+pub record FindsPick (rule : GuessRule) (held : Bool) (plan : Plan) (s : State) (last : Option Move) (moves : List Move) : Type 0 where
+  pub here : (mv : Move) → slice_get moves 0 ≡ Some mv → IsPicked rule held plan s last mv
+  pub gone : moves ≡ [] → IsLast plan s last
 
-unfoldable pub IsPickedFrom : GuessRule → (held : Bool) → Plan → State → (last : Option Move) → Rank → List Move → Type 0
-IsPickedFrom rule held plan s last r moves = FindsPick rule held plan s last r moves
+unfoldable pub IsPickedFrom : GuessRule → (held : Bool) → Plan → State → (last : Option Move) → List Move → Type 0
+IsPickedFrom rule held plan s last moves = FindsPick rule held plan s last moves

@@ -47,7 +47,7 @@ pub(crate) fn lowest(word: u32) -> Option<u32>
 
 /// The lowest stage of the word, which has bit i - 1 for stage i.
 #[inline(always)]
-pub(crate) fn lowest_stage(word: u32) -> Option<u32>
+pub fn lowest_stage(word: u32) -> Option<u32>
     ensures lowest { IfSome result (IsLowest word) }
     ensures first { IfSome result (λ i. Some (i - 1) ≡ slice_get (set_places 64 word) 0) }
     ensures gone { result ≡ None → None ≡ slice_get (set_places 64 word) 0 }

@@ -1,16 +1,14 @@
 //! Whether the sidings hold no operation. Then none of the moves by which an operation goes through them is allowed.
 
 ghost use Rattle.std.specs.List.{list_any};
-ghost use Rattle.std.specs.Prelude.{◌≡◌, ℕ, false, find, not, true};
+ghost use Rattle.std.specs.Prelude.{◌≡◌, ℕ, false, not, true};
 ghost use Rattle.cf_semantics.specs.state.Options.{is_some};
 ghost use Rattle.cf_semantics.specs.state.State.{siding_at};
 ghost use Rattle.cf_bind.specs.declared.moves.Move.TheVariants as mv;
 ghost use Rattle.cf_index.specs.Allowed.{is_allowed};
 ghost use Rattle.cf_index.specs.PickedFrom.{from_leave, outward_on};
-ghost use Rattle.cf_index.specs.Ranks.{is_past};
 
 use crate::candidates::Candidates;
-use crate::rank::Rank;
 use cf_core::Core;
 
 /// Whether no siding has an operation.
@@ -36,15 +34,13 @@ pub(crate) fn accesses(core: &Core) -> bool
 }
 
 impl Candidates {
-    /// Whether no siding has an operation. Then the first move after the rank, of those after the stages, is Leave, Exit or
-    /// Serve.
+    /// Whether no siding has an operation. Then of the moves after those over the stages only Leave, Exit and Serve can be allowed.
     #[inline(always)]
     #[tactic(auto, using(crate::proofs::EmptySidings::idle_outward))]
-    pub fn sidings_empty(core: &Core, last: Rank) -> bool
+    pub fn sidings_empty(core: &Core) -> bool
         ensures empty { result ≡ not (list_any (list_any is_some) core.now.state.sidings) }
-        ensures skips { result ≡ true → find (is_past last) (from_leave core.now.plan core.now.state) ≡ find (is_past last) (outward_on core.now.plan core.now.state) }
+        ensures skips { result ≡ true → from_leave core.now.plan core.now.state ≡ outward_on core.now.plan core.now.state }
     {
-        let _last = last;
         are_empty(core)
     }
 }

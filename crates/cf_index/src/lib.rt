@@ -29,6 +29,7 @@ mod starting;
 mod visiting;
 mod words;
 
+pub use bits::lowest_stage;
 pub use candidates::Candidates;
 pub use in_turn::{falls_bar_no_launch, results_at_rest};
 pub use known::is_known_allowed;
@@ -37,7 +38,7 @@ pub use packed::PackedCandidates;
 pub use rank::Rank;
 pub use sharing::shares;
 pub use stage_kinds::{
-    ClimbKind, ExecuteKind, FallKind, LaunchKind, MeetKind, RecoverKind, SendKind, StageKind,
+    ExecuteKind, FallKind, LaunchKind, MeetKind, RecoverKind, SendKind, StageKind, all_climbs,
     climbs_left,
 };
 pub use visiting::Visitor;

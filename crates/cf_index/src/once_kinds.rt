@@ -1,6 +1,6 @@
 //! The kinds of moves that have one move alone, since it has no stage: Emit, Access, Leave and Exit.
 
-ghost use Rattle.std.specs.Prelude.{◌≡◌, ◌≤◌, Bool, List, Some, false, find, true};
+ghost use Rattle.std.specs.Prelude.{◌≡◌, ◌≤◌, Bool, List, Some, false, slice_get, true};
 ghost use Rattle.run_options.specs.declared.guess_rule.GuessRule.{GuessRule};
 ghost use Rattle.cf_bind.specs.declared.moves.Move.{Move as Step};
 ghost use Rattle.cf_bind.specs.declared.moves.Move.TheVariants as mv;
@@ -8,11 +8,9 @@ ghost use Rattle.cf_layout.specs.Layout.{Plan};
 ghost use Rattle.cf_semantics.specs.state.State.{State};
 ghost use Rattle.cf_index.specs.Order.{kind_place};
 ghost use Rattle.cf_index.specs.Words.{goes_on};
-ghost use Rattle.cf_index.specs.Ranks.{is_past, rank_of};
 ghost use Rattle.cf_index.specs.PickedFrom.{IsPickedFrom, from_access, from_climb, from_emit, from_exit, from_leave, from_recover, from_serve};
 
 use crate::pipe_ends::{emits, exits, leaves};
-use crate::rank::{ACCESS, EMIT, EXIT, LEAVE, Rank};
 use cf_bind::Move;
 use cf_core::Core;
 
@@ -32,13 +30,13 @@ pub trait OnceKind {
         ensures value { result ≡ only_move }
         ensures after { 1 ≤ kind_place result }
         ensures before { kind_place result ≤ 12 }
-        ensures picked { (rule : GuessRule) (held : Bool) (plan : Plan) (s : State) → plan.stages ≤ 32 → IsPickedFrom rule held plan s (Some result) (rank_of result) (beyond plan s) };
+        ensures picked { (rule : GuessRule) (held : Bool) (plan : Plan) (s : State) → plan.stages ≤ 32 → IsPickedFrom rule held plan s (Some result) (beyond plan s) };
 
-    /// Whether the move is allowed and comes after the rank.
-    fn is_left(core: &Core, last: Rank) -> bool
+    /// Whether the move is allowed.
+    fn is_left(core: &Core) -> bool
         requires { goes_on core.now.state ≡ true }
-        ensures here { result ≡ true → find (is_past last) (from core.now.plan core.now.state) ≡ Some only_move }
-        ensures gone { result ≡ false → find (is_past last) (beyond core.now.plan core.now.state) ≡ find (is_past last) (from core.now.plan core.now.state) };
+        ensures here { result ≡ true → slice_get (from core.now.plan core.now.state) 0 ≡ Some only_move }
+        ensures gone { result ≡ false → beyond core.now.plan core.now.state ≡ from core.now.plan core.now.state };
 }
 
 /// Emit.
@@ -68,9 +66,9 @@ impl OnceKind for EmitKind {
 
     #[inline(always)]
     #[tactic(auto, using(crate::proofs::PickedFrom::emitting))]
-    fn is_left(core: &Core, last: Rank) -> bool {
+    fn is_left(core: &Core) -> bool {
         let masks = core.open_masks();
-        last.kind < EMIT && emits(core, &masks)
+        emits(core, &masks)
     }
 }
 
@@ -89,8 +87,8 @@ impl OnceKind for AccessKind {
 
     #[inline(always)]
     #[tactic(auto, using(crate::proofs::PickedFrom::accessing))]
-    fn is_left(core: &Core, last: Rank) -> bool {
-        last.kind < ACCESS && core.may_access()
+    fn is_left(core: &Core) -> bool {
+        core.may_access()
     }
 }
 
@@ -109,9 +107,9 @@ impl OnceKind for LeaveKind {
 
     #[inline(always)]
     #[tactic(auto, using(crate::proofs::PickedFrom::leaving))]
-    fn is_left(core: &Core, last: Rank) -> bool {
+    fn is_left(core: &Core) -> bool {
         let masks = core.open_masks();
-        last.kind < LEAVE && leaves(core, &masks)
+        leaves(core, &masks)
     }
 }
 
@@ -130,8 +128,8 @@ impl OnceKind for ExitKind {
 
     #[inline(always)]
     #[tactic(auto, using(crate::proofs::PickedFrom::exiting))]
-    fn is_left(core: &Core, last: Rank) -> bool {
+    fn is_left(core: &Core) -> bool {
         let masks = core.open_masks();
-        last.kind < EXIT && exits(core, &masks)
+        exits(core, &masks)
     }
 }

@@ -82,7 +82,7 @@ fn next_leaving(core: &Core, last: Rank) -> Option<Move>
 /// The first move within the sidings.
 #[inline(always)]
 #[tactic(auto, using(crate::proofs::Ranks::first_sliding))]
-fn first_slide(slides: u64) -> Option<Move>
+pub(crate) fn first_slide(slides: u64) -> Option<Move>
     ensures first { result ≡ slice_get (slides_of slides) 0 }
     ensures slide { IfSome result (λ next. kind_place next ≡ slide_place) }
 {
@@ -96,7 +96,7 @@ fn first_slide(slides: u64) -> Option<Move>
 
 /// The first move within the sidings after a move that is not one of them.
 #[inline(always)]
-pub(crate) fn next_slide(core: &Core, last: Rank) -> Option<Move>
+fn next_slide(core: &Core, last: Rank) -> Option<Move>
     ensures slide { IfSome result (λ next. kind_place next ≡ slide_place) }
     ensures first { last.kind ≢ slide_place → result ≡ find (is_past last) (filter (is_allowed core.now.plan core.now.state) (slides_from 0 core.now.plan.sidings)) }
 {

@@ -1,7 +1,7 @@
 //! The kinds of moves that a sweep lists stage by stage: the stages at which such a move is left are a word that is made
 //! once, and changed after each move.
 
-ghost use Rattle.std.specs.Prelude.{◌≡◌, ℕ, ◌-◌, ◌≤◌, Bool, IfSome, List, None, Some, find, true};
+ghost use Rattle.std.specs.Prelude.{◌≡◌, ℕ, ◌-◌, ◌≤◌, Bool, List, Some, true};
 ghost use Rattle.run_options.specs.declared.guess_rule.GuessRule.{GuessRule};
 ghost use Rattle.cf_bind.specs.declared.moves.Move.{Move as Step};
 ghost use Rattle.cf_bind.specs.declared.moves.Move.TheVariants as mv;
@@ -12,18 +12,14 @@ ghost use Rattle.cf_core.specs.Processors.{IsProcessor, Processor};
 ghost use Rattle.cf_index.specs.Left.{AreLeft, IsLowest, IsMadeAt};
 ghost use Rattle.cf_index.specs.Order.{kind_place};
 ghost use Rattle.cf_index.specs.Words.{goes_on};
-ghost use Rattle.cf_index.specs.Ranks.{is_past, rank_of};
-ghost use Rattle.cf_index.specs.PickedFrom.{IsPickedFrom, from_climb, from_execute, from_fall, from_launch, from_leave, from_meet, from_recover, from_send, outward_on};
+ghost use Rattle.cf_index.specs.PickedFrom.{IsPickedFrom, from_climb, from_execute, from_fall, from_launch, from_leave, from_meet, from_recover, from_send, left_then, outward_on};
 
-use crate::ahead::{climbs_after, falls_after};
-use crate::bits::lowest_stage;
-use crate::rank::{EXECUTE, LAUNCH, MEET, RECOVER, Rank, SEND};
-use crate::stages::{executes, know_stages, launches, meets, sends};
-use crate::words::{resting, with_next, without_lowest};
+use crate::stages::{climbs, executes, falls, know_stages, launches, meets, sends};
+use crate::words::{past, resting, with_next, without_lowest};
 use cf_bind::Move;
 use cf_core::Core;
 
-/// A kind of move that a sweep lists stage by stage: Climb, Fall, Meet, Execute, Send, Launch or Recover.
+/// A kind of move that a sweep lists stage by stage: Fall, Meet, Execute, Send, Launch or Recover.
 pub trait StageKind {
     /// The move of this kind at a stage.
     ghost at_stage: { ℕ → Step };
@@ -39,29 +35,21 @@ pub trait StageKind {
         ensures value { result ≡ at_stage i }
         ensures after { 1 ≤ kind_place result }
         ensures before { kind_place result ≤ 10 }
-        ensures picked { (rule : GuessRule) (held : Bool) (plan : Plan) (s : State) → plan.stages ≤ 32 → IsPickedFrom rule held plan s (Some result) (rank_of result) (from plan s) };
+        ensures picked { (rule : GuessRule) (held : Bool) (plan : Plan) (s : State) (w : ℕ) → plan.stages ≤ 32 → AreLeft plan s i at_stage w →
+            IsPickedFrom rule held plan s (Some result) (left_then at_stage w beyond plan s) };
 
-    /// The stages past the rank at which the move is allowed, as a word with bit i - 1 for stage i.
-    fn left(core: &Core, last: Rank) -> u32
+    /// The stages at which the move is allowed, as a word with bit i - 1 for stage i.
+    fn left(core: &Core) -> u32
         requires { goes_on core.now.state ≡ true }
-        ensures { AreLeft core.now.plan core.now.state last at_stage result };
-
-    /// The first of the stages that are left.
-    fn next(core: &Core, last: Rank, left: u32) -> Option<u32>
-        requires { AreLeft core.now.plan core.now.state last at_stage left }
-        ensures here { IfSome result (λ i. find (is_past last) (from core.now.plan core.now.state) ≡ Some (at_stage i)) }
-        ensures gone { result ≡ None → find (is_past last) (beyond core.now.plan core.now.state) ≡ find (is_past last) (from core.now.plan core.now.state) }
-        ensures lowest { IfSome result (IsLowest left) };
+        ensures stages { AreLeft core.now.plan core.now.state 0 at_stage result }
+        ensures listed { left_then at_stage result beyond core.now.plan core.now.state ≡ from core.now.plan core.now.state };
 
     /// The stages that are left after the move was made at the first of them.
     fn left_after(core: &Core, i: u32, left: u32) -> u32
         requires { goes_on core.now.state ≡ true }
-        ensures { (old : State) (r : Rank) → IsProcessor core.now.plan old → IsMadeAt core.now.plan old core.now.state r at_stage left i →
-            AreLeft core.now.plan core.now.state (rank_of (at_stage i)) at_stage result };
+        ensures { (old : State) (a : ℕ) → IsProcessor core.now.plan old → IsMadeAt core.now.plan old core.now.state a at_stage left i →
+            AreLeft core.now.plan core.now.state i at_stage result };
 }
-
-/// Climb, by stage.
-pub struct ClimbKind;
 
 /// Fall, by stage.
 pub struct FallKind;
@@ -81,37 +69,6 @@ pub struct LaunchKind;
 /// Recover, by stage.
 pub struct RecoverKind;
 
-impl StageKind for ClimbKind {
-    ghost at_stage = { mv.Climb };
-
-    ghost from = { from_climb };
-
-    ghost beyond = { from_fall };
-
-    #[inline(always)]
-    #[tactic(auto, using(crate::proofs::PickedFrom::climbed_on))]
-    fn at(i: u32) -> Move {
-        Move::Climb(i)
-    }
-
-    #[inline(always)]
-    fn left(core: &Core, last: Rank) -> u32 {
-        let masks = core.open_masks();
-        climbs_after(core, &masks, last, true)
-    }
-
-    #[inline(always)]
-    fn next(_core: &Core, _last: Rank, left: u32) -> Option<u32> {
-        lowest_stage(left)
-    }
-
-    // After one Climb the instruction may climb on, from a stage where none could climb before.
-    #[inline(always)]
-    fn left_after(core: &Core, i: u32, _left: u32) -> u32 {
-        Self::left(core, Rank::of(Self::at(i)))
-    }
-}
-
 impl StageKind for FallKind {
     ghost at_stage = { mv.Fall };
 
@@ -126,14 +83,10 @@ impl StageKind for FallKind {
     }
 
     #[inline(always)]
-    fn left(core: &Core, last: Rank) -> u32 {
+    #[tactic(auto, using(crate::proofs::LeftStages::left_all, crate::proofs::PickedFrom::all_falls), unfolding(crate::specs::Allowed::passing_of))]
+    fn left(core: &Core) -> u32 {
         let masks = core.open_masks();
-        falls_after(core, &masks, last, true)
-    }
-
-    #[inline(always)]
-    fn next(_core: &Core, _last: Rank, left: u32) -> Option<u32> {
-        lowest_stage(left)
+        falls(core, &masks, true)
     }
 
     // The stage that the result has left has none now, so the result of the stage above can fall to it.
@@ -159,14 +112,10 @@ impl StageKind for MeetKind {
     }
 
     #[inline(always)]
-    fn left(core: &Core, last: Rank) -> u32 {
+    #[tactic(auto, using(crate::proofs::LeftStages::left_all, crate::proofs::PickedFrom::all_meets), unfolding(crate::specs::Allowed::passing_of))]
+    fn left(core: &Core) -> u32 {
         let masks = core.open_masks();
-        last.after(MEET, meets(core, &masks, true))
-    }
-
-    #[inline(always)]
-    fn next(_core: &Core, _last: Rank, left: u32) -> Option<u32> {
-        lowest_stage(left)
+        meets(core, &masks, true)
     }
 
     #[inline(always)]
@@ -189,14 +138,10 @@ impl StageKind for ExecuteKind {
     }
 
     #[inline(always)]
-    fn left(core: &Core, last: Rank) -> u32 {
+    #[tactic(auto, using(crate::proofs::LeftStages::left_all, crate::proofs::PickedFrom::all_executes), unfolding(crate::specs::Allowed::passing_of))]
+    fn left(core: &Core) -> u32 {
         let masks = core.open_masks();
-        last.after(EXECUTE, executes(core, &masks))
-    }
-
-    #[inline(always)]
-    fn next(_core: &Core, _last: Rank, left: u32) -> Option<u32> {
-        lowest_stage(left)
+        executes(core, &masks)
     }
 
     #[inline(always)]
@@ -219,14 +164,10 @@ impl StageKind for SendKind {
     }
 
     #[inline(always)]
-    fn left(core: &Core, last: Rank) -> u32 {
+    #[tactic(auto, using(crate::proofs::LeftStages::left_all, crate::proofs::PickedFrom::all_sends), unfolding(crate::specs::Allowed::passing_of))]
+    fn left(core: &Core) -> u32 {
         let masks = core.open_masks();
-        last.after(SEND, sends(core, &masks, true))
-    }
-
-    #[inline(always)]
-    fn next(_core: &Core, _last: Rank, left: u32) -> Option<u32> {
-        lowest_stage(left)
+        sends(core, &masks, true)
     }
 
     #[inline(always)]
@@ -249,20 +190,16 @@ impl StageKind for LaunchKind {
     }
 
     #[inline(always)]
-    fn left(core: &Core, last: Rank) -> u32 {
+    #[tactic(auto, using(crate::proofs::LeftStages::left_all, crate::proofs::PickedFrom::all_launches), unfolding(crate::specs::Allowed::passing_of))]
+    fn left(core: &Core) -> u32 {
         let masks = core.open_masks();
-        last.after(LAUNCH, launches(core, &masks))
-    }
-
-    #[inline(always)]
-    fn next(_core: &Core, _last: Rank, left: u32) -> Option<u32> {
-        lowest_stage(left)
+        launches(core, &masks)
     }
 
     // The siding that the operation has entered may be that of another stage too.
     #[inline(always)]
     fn left_after(core: &Core, i: u32, _left: u32) -> u32 {
-        Self::left(core, Rank::of(Self::at(i)))
+        past(Self::left(core), i)
     }
 }
 
@@ -280,22 +217,30 @@ impl StageKind for RecoverKind {
     }
 
     #[inline(always)]
-    fn left(core: &Core, last: Rank) -> u32 {
-        let masks = core.open_masks();
-        last.after(RECOVER, masks.recover)
-    }
-
-    #[inline(always)]
-    fn next(core: &Core, _last: Rank, left: u32) -> Option<u32> {
+    #[tactic(auto, using(crate::proofs::LeftStages::left_all, crate::proofs::PickedFrom::all_recovers), unfolding(cf_core::specs::Masks::masks_of))]
+    fn left(core: &Core) -> u32 {
         know_stages(core);
-        lowest_stage(left)
+        let masks = core.open_masks();
+        masks.recover
     }
 
     // The siding that the operation has left may be that of another stage too.
     #[inline(always)]
     fn left_after(core: &Core, i: u32, _left: u32) -> u32 {
-        Self::left(core, Rank::of(Self::at(i)))
+        past(Self::left(core), i)
     }
+}
+
+/// The stages at which a Climb is allowed, as a word with bit i - 1 for stage i.
+#[inline(always)]
+#[tactic(auto, using(crate::proofs::LeftStages::left_all, crate::proofs::PickedFrom::all_climbs), unfolding(crate::specs::Allowed::passing_of))]
+pub fn all_climbs(core: &Core) -> u32
+    requires { goes_on core.now.state ≡ true }
+    ensures stages { AreLeft core.now.plan core.now.state 0 mv.Climb result }
+    ensures listed { left_then mv.Climb result from_fall core.now.plan core.now.state ≡ from_climb core.now.plan core.now.state }
+{
+    let masks = core.open_masks();
+    climbs(core, &masks, true)
 }
 
 /// The Climbs that are left after the instruction of the lowest stage has climbed as far as it can.
@@ -303,8 +248,8 @@ impl StageKind for RecoverKind {
 #[tactic(auto, using(crate::proofs::LeftClimbs::left_climbs))]
 pub fn climbs_left(i: u32, left: u32) -> u32
     requires { IsLowest left i }
-    ensures { (p : Processor) (j : ℕ) (r : Rank) → AreLeft p.plan p.state r mv.Climb left → IsProcessor p.plan p.state → ClimbsTo p i j →
-        AreLeft p.plan (climbed p i (j - i)).state (rank_of (mv.Climb (j - 1))) mv.Climb result }
+    ensures { (p : Processor) (j a : ℕ) → AreLeft p.plan p.state a mv.Climb left → IsProcessor p.plan p.state → ClimbsTo p i j →
+        AreLeft p.plan (climbed p i (j - i)).state (j - 1) mv.Climb result }
 {
     let _stage = i;
     without_lowest(left)

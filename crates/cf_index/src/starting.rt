@@ -6,7 +6,7 @@ ghost use Rattle.cf_bind.specs.declared.moves.Move.{Move as Step};
 ghost use Rattle.cf_index.specs.Allowed.{all_passing, is_allowed, unheld_issues};
 ghost use Rattle.cf_index.specs.Order.{kind_place, slide_place};
 ghost use Rattle.cf_index.specs.PickedFrom.{IsLast, IsPicked, IsPickedFrom, from_emit, outward_on};
-ghost use Rattle.cf_index.specs.Ranks.{first_rank, is_past, rank_of};
+ghost use Rattle.cf_index.specs.Ranks.{is_past, rank_of};
 ghost use Rattle.cf_index.specs.Words.{goes_on};
 
 use crate::candidates::Candidates;
@@ -57,7 +57,7 @@ impl Candidates {
     #[inline(always)]
     pub fn starts_over(core: &Core, last: Rank, held: bool) -> bool
         ensures { (rule : Rule) (mv : Step) → last ≡ rank_of mv → result ≡ true →
-            IsPickedFrom rule held core.now.plan core.now.state (Some mv) first_rank (from_emit core.now.plan core.now.state) }
+            IsPickedFrom rule held core.now.plan core.now.state (Some mv) (from_emit core.now.plan core.now.state) }
     {
         know_stages(core);
         issues_none(core, held) && is_at_end(core, last)
@@ -72,7 +72,7 @@ impl Candidates {
         ensures picked { (last : Step) → 1 ≤ kind_place last → IsLast core.now.plan core.now.state (Some last) →
             IfSome result (λ next. IsPicked rule held core.now.plan core.now.state (Some last) next) }
         ensures none { result ≡ None → (last : Step) → 1 ≤ kind_place last → IsLast core.now.plan core.now.state (Some last) →
-            IsPickedFrom rule held core.now.plan core.now.state (Some last) first_rank (from_emit core.now.plan core.now.state) }
+            IsPickedFrom rule held core.now.plan core.now.state (Some last) (from_emit core.now.plan core.now.state) }
     {
         know_stages(core);
         if issues_none(core, held) {

@@ -1,32 +1,32 @@
 -- The Climbs of one instruction, as far as it can: each is the rule's next pick, since the Climb of a stage comes right after that
 -- of the stage below in the order of all moves.
-use Rattle.std.proofs.Common.{◌≡◌, ◌∙◌, sym, refl, ap, subst, ℕ, zero, suc, ◌+◌, ◌-◌, ◌≤◌, ◌<◌, ◌^◌, List, ◌∷◌, ◌++◌, length, map, Bool, true, false, cond, Option, Some, None, arith}
-use Rattle.std.specs.Prelude.{filter, find, nat_eq}
+use Rattle.std.proofs.Common.{◌≡◌, ◌∙◌, sym, refl, ap, subst, ℕ, zero, suc, ◌+◌, ◌-◌, ◌≤◌, ◌<◌, ◌^◌, List, length, Bool, true, false, nat_lt, Option, Some, None, arith}
+use Rattle.std.specs.Prelude.{◌&&◌}
+use Rattle.std.proofs.Math.Bool.{and-false}
 use Rattle.std.proofs.lemmas.Bool.Decides.{nat_tests}
-use Rattle.std.proofs.lemmas.List.Elements.{filter-append}
 use Rattle.std.proofs.lemmas.Option.{slice_get_within}
 use Rattle.cf_layout.specs.Layout.{Plan}
+use Rattle.cf_layout.specs.Words.{has_bit}
 use Rattle.cf_bind.specs.declared.cell.Cell.{Cell}
 use Rattle.cf_bind.specs.declared.moves.Move.{Move}
-use Rattle.cf_bind.specs.declared.moves.Move.TheVariants.{Climb, Fall, Meet, Execute, Send, Launch}
+use Rattle.cf_bind.specs.declared.moves.Move.TheVariants.{Climb}
 use Rattle.cf_semantics.specs.declared.event.Event.TheVariants as event
 use Rattle.cf_semantics.specs.moves.Bars.{bar}
-use Rattle.cf_semantics.specs.moves.Candidates.{at_stages, counted_from}
 use Rattle.cf_semantics.specs.moves.Holding.{is_held}
 use Rattle.cf_semantics.specs.moves.Moves.{moved, without_passenger}
 use Rattle.cf_semantics.specs.state.State.{State, cell_at, put_cell}
 use Rattle.theory_refinement.proofs.moves.Climb.{climb_ready, next_climb}
 use Rattle.theory_refinement.proofs.moves.Rows.{bar_row, put_size}
+use Rattle.cf_stages.specs.Words.{word_of}
+use Rattle.cf_stages.proofs.Bits.{word-small}
 use Rattle.cf_core.specs.Climbing.{ClimbsTo, climbed, climbs_on}
 use Rattle.cf_core.specs.Processors.{IsProcessor, Processor, after_move}
-use Rattle.cf_index.specs.Allowed.{all_passing, is_allowed}
-use Rattle.cf_index.specs.Left.{AreLeft}
-use Rattle.cf_index.specs.PickedFrom.{from_climb, outward_on}
-use Rattle.cf_index.specs.Ranks.{is_past, rank_of}
-use Rattle.cf_index.specs.declared.rank.Rank.{Rank}
-use Rattle.cf_index.proofs.AllowedWords.{climb-on}
-use Rattle.cf_index.proofs.FirstsAfter.{found_first}
+use Rattle.cf_index.specs.Allowed.{is_allowed, word_allowed}
+use Rattle.cf_index.specs.Left.{AreLeft, IsLowest}
+use Rattle.cf_index.specs.PickedFrom.{from_fall, left_then}
+use Rattle.cf_index.proofs.LeftStages.{first_lowest}
 use Rattle.cf_index.proofs.PickedFrom.{climbed_on}
+use Rattle.cf_index.proofs.Rows.{allowed-has, word-has}
 use Rattle.cf_sched.specs.Paces.{PaceCount}
 use Rattle.cf_report.specs.declared.tally.Tally.{Tally}
 use Rattle.cf_run.specs.Sweeps.{IsSweeping, PicksNext, SweepsTo, rule_at, silent}
@@ -34,64 +34,56 @@ use Rattle.cf_run.proofs.Turning.{after_keeps, come-counts, few-stages, no_turns
 
 -- The next Climb is picked --
 
-skipped : (p : Move → Bool) (b : Bool) (x : Move) (xs : List Move) (o : Option Move) → p x ≡ false → find p xs ≡ o → find p (cond b (x ∷ xs) xs) ≡ o
-skipped p true x xs o e rest = rw e rest
-skipped p false x xs o e rest = rest
+-- the stages above one at which a Climb is allowed, as a word
+abbrev above_test : Plan → State → ℕ → ℕ → Bool
+above_test plan s a i = is_allowed plan s (Climb i) && nat_lt a i
 
-taken : (p q : Move → Bool) (x : Move) (xs : List Move) → p x ≡ true → q x ≡ true → find p (cond (q x) (x ∷ xs) xs) ≡ Some x
-taken p q x xs past free = rw (free, past) refl
+abbrev above_word : Plan → State → ℕ → ℕ
+above_word plan s a = word_of (above_test plan s a) plan.stages
 
--- of the moves of a kind, the first past a stage is that of the next stage, if it is allowed
-first_above : (p q : Move → Bool) (f : ℕ → Move) (k a n : ℕ) → ((m : ℕ) → m ≤ k → p (f m) ≡ false) → p (f (k + 1)) ≡ true → q (f (k + 1)) ≡ true →
-    a ≤ k + 1 → k + 1 < a + n → find p (filter q (map f (counted_from a n))) ≡ Some (f (k + 1))
-first_above p q f k a zero off past free low high = absurd (omega (arith, low, high))
-first_above p q f k a (suc n) off past free low high =
-    by (nat_eq a (k + 1)) refl (λ below. first_above p q f k (suc a) n off past free (omega (arith, below)) (omega (arith, high)))
+above_has : (plan : Plan) (s : State) (a k : ℕ) → has_bit (above_word plan s a) k ≡ (has_bit (word_allowed plan s Climb) k && nat_lt a (k + 1))
+above_has plan s a k =
+    word-has (above_test plan s a) plan.stages k ∙ together (nat_lt k plan.stages) (is_allowed plan s (Climb (k + 1))) (nat_lt a (k + 1))
+    ∙ ap (λ (b : Bool). b && nat_lt a (k + 1)) (sym (allowed-has plan s Climb k))
   where
-    by : (same : Bool) → nat_eq a (k + 1) ≡ same → (a ≤ k → find p (filter q (map f (counted_from (suc a) n))) ≡ Some (f (k + 1))) →
-        find p (filter q (map f (counted_from a (suc n)))) ≡ Some (f (k + 1))
-    by true is rest =
-        let e : a ≡ k + 1 = grind (arith, nat_tests) in
-        subst (λ (m : ℕ). find p (filter q (map f (counted_from m (suc n)))) ≡ Some (f (k + 1))) (sym e)
-        (taken p q (f (k + 1)) (filter q (map f (counted_from (suc (k + 1)) n))) past free)
-    by false is rest =
-        let below : a ≤ k = grind (arith, nat_tests) in
-        skipped p (q (f a)) (f a) (filter q (map f (counted_from (suc a) n))) (Some (f (k + 1))) (off a below) (rest below)
+    together : (a b c : Bool) → (a && (b && c)) ≡ ((a && b) && c)
+    together true b c = refl
+    together false b c = refl
 
 numbered : (cells : List Cell) (i : ℕ) (c : Cell) → cell_at cells i ≡ Some c → i ≤ length cells
 numbered cells zero c there = omega arith
 numbered cells (suc k) c there = let within = slice_get_within cells k c there in omega (arith, within)
 
-climb_found : (plan : Plan) (s : State) (k : ℕ) → plan.stages ≤ 32 → length s.cells ≡ plan.stages → bar plan s (Climb (k + 1)) ≡ None →
-    find (is_past (rank_of (Climb k))) (from_climb plan s) ≡ Some (Climb (k + 1))
-unfolding from_climb
-climb_found plan s k few size free =
-    let p = is_past (rank_of (Climb k)) in
-    let q = is_allowed plan s in
-    let next = Climb (k + 1) in
-    let later = at_stages plan Fall ++ (at_stages plan Meet ++ (at_stages plan Execute ++ (at_stages plan Send ++ at_stages plan Launch))) in
-    let r = climb_ready plan s (k + 1) (bar_row plan s next free) in
+-- if the next stage can climb, it is the lowest of them
+next_lowest : (plan : Plan) (s : State) (k : ℕ) → length s.cells ≡ plan.stages → bar plan s (Climb (k + 1)) ≡ None → IsLowest (above_word plan s k) (k + 1)
+next_lowest plan s k size free =
+    let r = climb_ready plan s (k + 1) (bar_row plan s (Climb (k + 1)) free) in
     let within = numbered s.cells (k + 1) r.low r.at_low in
-    let allowed : q next ≡ true = rw free refl in
-    let here : find p (filter q (at_stages plan Climb)) ≡ Some next =
-    first_above p q Climb k 1 plan.stages (λ m low. below m low) above allowed (omega arith) (omega (arith, within, size)) in
-    ap (λ (xs : List Move). find p (xs ++ outward_on plan s)) (climb-on plan s few)
-    ∙ found_first p (filter q (all_passing plan)) (outward_on plan s) next
-    (ap (find p) (filter-append q (at_stages plan Climb) later) ∙ found_first p (filter q (at_stages plan Climb)) (filter q later) next here)
+    let z : k + 1 - 1 ≡ k = omega arith in
+    let there : nat_lt k plan.stages ≡ true = grind (arith, nat_tests) in
+    let past : nat_lt k (k + 1) ≡ true = grind (arith, nat_tests) in
+    record {
+      numbered = omega arith;
+      here = rw z (word-has (above_test plan s k) plan.stages k ∙ rw (there, free, past) refl);
+      first = λ j below. above_has plan s k j ∙ lower j below;
+    }
   where
-    below : (m : ℕ) → m ≤ k → is_past (rank_of (Climb k)) (Climb m) ≡ false
-    below m low = grind (arith, nat_tests)
-
-    above : is_past (rank_of (Climb k)) (Climb (k + 1)) ≡ true
-    above = grind (arith, nat_tests)
+    lower : (j : ℕ) → j + 1 < k + 1 → (has_bit (word_allowed plan s Climb) j && nat_lt k (j + 1)) ≡ false
+    lower j below =
+        let off : nat_lt k (j + 1) ≡ false = grind (arith, nat_tests) in
+        rw off (and-false (has_bit (word_allowed plan s Climb) j))
 
 next_picked : (limit : ℕ) (p : Processor) (k : ℕ) (pace : PaceCount) (tally : Tally) → IsSweeping limit (rule_at p (Some (Climb k)) pace tally) →
     length p.state.cells ≡ p.plan.stages → bar p.plan p.state (Climb (k + 1)) ≡ None → PicksNext pace p (Some (Climb k)) (Climb (k + 1))
+unfolding AreLeft
 next_picked limit p k pace tally ready size free =
     let few = few-stages limit (rule_at p (Some (Climb k)) pace tally) ready in
     let held = is_held p.plan pace.count in
-    picked_here pace.rule held p.plan p.state (Some (Climb k)) (rank_of (Climb k)) (from_climb p.plan p.state) (Climb (k + 1))
-    (climbed_on pace.rule held p.plan p.state k few) (climb_found p.plan p.state k few size free)
+    let w = above_word p.plan p.state k in
+    picked_here pace.rule held p.plan p.state (Some (Climb k)) (left_then Climb w from_fall p.plan p.state) (Climb (k + 1))
+    (climbed_on pace.rule held p.plan p.state k w few (above_has p.plan p.state k))
+    (first_lowest Climb w (k + 1) (from_fall p.plan p.state) (word-small (above_test p.plan p.state k) p.plan.stages few)
+    (next_lowest p.plan p.state k size free))
 
 -- Climb after Climb --
 
@@ -196,13 +188,12 @@ climbed_plan p i zero = refl
 climbed_plan p i (suc n) = climbed_plan p i n
 
 -- the word of the stages from which a Climb is left after it
-pub climbs-left : (old new : Processor) (r place : Rank) (w after i j : ℕ) → new ≡ climbed old i (j - i) → place ≡ rank_of (Climb (j - 1)) →
-    IsProcessor old.plan old.state → AreLeft old.plan old.state r Climb w → ClimbsTo old i j →
-    ((p : Processor) (j : ℕ) (r : Rank) → AreLeft p.plan p.state r Climb w → IsProcessor p.plan p.state → ClimbsTo p i j →
-    AreLeft p.plan (climbed p i (j - i)).state (rank_of (Climb (j - 1))) Climb after) →
-    AreLeft new.plan new.state place Climb after
-climbs-left old new r place w after i j made at facts left to so =
-    let there = subst (λ (l : Plan). AreLeft l (climbed old i (j - i)).state (rank_of (Climb (j - 1))) Climb after) (sym (climbed_plan old i (j - i)))
-    (so old j r left facts to) in
-    subst (λ (q : Rank). AreLeft new.plan new.state q Climb after) (sym at)
-    (subst (λ (p : Processor). AreLeft p.plan p.state (rank_of (Climb (j - 1))) Climb after) (sym made) there)
+pub climbs-left : (old new : Processor) (a w after i j : ℕ) → new ≡ climbed old i (j - i) → IsProcessor old.plan old.state →
+    AreLeft old.plan old.state a Climb w → ClimbsTo old i j →
+    ((p : Processor) (j a : ℕ) → AreLeft p.plan p.state a Climb w → IsProcessor p.plan p.state → ClimbsTo p i j →
+    AreLeft p.plan (climbed p i (j - i)).state (j - 1) Climb after) →
+    AreLeft new.plan new.state (j - 1) Climb after
+climbs-left old new a w after i j made facts left to so =
+    let there = subst (λ (l : Plan). AreLeft l (climbed old i (j - i)).state (j - 1) Climb after) (sym (climbed_plan old i (j - i)))
+    (so old j a left facts to) in
+    subst (λ (p : Processor). AreLeft p.plan p.state (j - 1) Climb after) (sym made) there

@@ -1,8 +1,8 @@
 -- The Falls of a sweep that are made at once: each is the rule's next pick, since each is the first past the one before in the order
 -- of all moves.
-use Rattle.std.proofs.Common.{◌≡◌, ◌≢◌, ◌∙◌, sym, refl, ap, subst, ℕ, zero, suc, ◌+◌, ◌-◌, ◌<◌, ◌^◌, List, [], ◌∷◌, length, Bool, true, false, nat_lt, Option, Some, None, arith}
+use Rattle.std.proofs.Common.{◌≡◌, ◌≢◌, ◌∙◌, sym, refl, ap, subst, ℕ, ◌+◌, ◌-◌, ◌<◌, ◌^◌, List, [], ◌∷◌, ◌++◌, length, Bool, true, false, nat_lt, Option, Some, None, arith}
 use Rattle.std.specs.Prelude.{◌&&◌}
-use Rattle.std.proofs.Math.Bool.{and-false}
+use Rattle.std.proofs.Math.Bool.{and-false, and-true}
 use Rattle.std.proofs.lemmas.Bool.Decides.{nat_tests}
 use Rattle.cf_layout.specs.Layout.{Plan}
 use Rattle.cf_layout.specs.Words.{has_bit}
@@ -22,12 +22,12 @@ use Rattle.cf_stages.proofs.Bits.{same-words}
 use Rattle.cf_core.specs.Falling.{FallsTo, fallen}
 use Rattle.cf_core.specs.Processors.{Processor, after_move}
 use Rattle.cf_core.proofs.FallMarks.{fallen-cells, moved-fall}
+use Rattle.cf_index.specs.Allowed.{passing_of, word_allowed}
 use Rattle.cf_index.specs.Left.{AreLeft}
-use Rattle.cf_index.specs.PickedFrom.{from_fall, from_meet}
-use Rattle.cf_index.specs.Ranks.{is_past, rank_of}
-use Rattle.cf_index.specs.declared.rank.Rank.{Rank}
-use Rattle.cf_index.proofs.FallsInTurn.{left-falls, next-found, none-found}
-use Rattle.cf_index.proofs.PickedFrom.{fallen_on, picked_on}
+use Rattle.cf_index.specs.PickedFrom.{from_fall, from_meet, left_then}
+use Rattle.cf_index.specs.Words.{goes_on}
+use Rattle.cf_index.proofs.FallsInTurn.{left-falls, next-left, no-falls, none-left}
+use Rattle.cf_index.proofs.PickedFrom.{all_falls, fallen_on, picked_on, same_listed}
 use Rattle.cf_sched.specs.Paces.{PaceCount}
 use Rattle.cf_report.specs.declared.tally.Tally.{Tally}
 use Rattle.cf_run.specs.Sweeps.{IsSweeping, PicksFrom, PicksNext, SweepsTo, rule_at, silent}
@@ -41,21 +41,15 @@ abbrev last_fall : Option Move → List ℕ → Option Move
 last_fall last [] = last
 last_fall last (i ∷ stages) = Some (Fall i)
 
--- and the rank after which it looks for the next one
-abbrev rank_after : Rank → List ℕ → Rank
-rank_after r [] = r
-rank_after r (i ∷ stages) = rank_of (Fall i)
-
--- of the stages from which a result can fall, those past the rank are those above stage a
-abbrev PastAs : List Cell → Rank → ℕ → Type 0
-PastAs cells r a = (k : ℕ) → (falls cells k && is_past r (Fall k)) ≡ (falls cells k && nat_lt a k)
+-- whatever word has the Falls that are left above stage a, the rule picks the first of these, or of the kinds after them
+abbrev PicksAbove : PaceCount → Processor → Option Move → (a : ℕ) → Type 0
+PicksAbove pace p last a = (w : ℕ) → AreLeft p.plan p.state a Fall w → PicksFrom pace p last (left_then Fall w from_meet)
 
 -- where they lead
-record FallsBy (limit : ℕ) (p : Processor) (last : Option Move) (r : Rank) (pace : PaceCount) (tally : Tally) (a : ℕ) (stages : List ℕ) : Type 0 where
+record FallsBy (limit : ℕ) (p : Processor) (last : Option Move) (pace : PaceCount) (tally : Tally) (a : ℕ) (stages : List ℕ) : Type 0 where
   swept : SweepsTo limit silent (rule_at p last pace tally) (rule_at (fallen p stages) (last_fall last stages) pace (with_moves tally (length stages)))
   ready : IsSweeping limit (rule_at (fallen p stages) (last_fall last stages) pace (with_moves tally (length stages)))
-  picked : PicksFrom pace (fallen p stages) (last_fall last stages) (rank_after r stages) from_fall
-  past : PastAs (fallen p stages).state.cells (rank_after r stages) (last_of a stages)
+  picked : PicksAbove pace (fallen p stages) (last_fall last stages) (last_of a stages)
   plan : (fallen p stages).plan ≡ p.plan
   size : length (fallen p stages).state.cells ≡ p.plan.stages
 
@@ -73,53 +67,23 @@ length_fallen cells i = by (cell_at cells i) (cell_at cells (i - 1))
 keeps_size : (plan : Plan) (s : State) (i : ℕ) → length (moved plan s (Fall i)).cells ≡ length s.cells
 keeps_size plan s i = ap (λ (t : State). length t.cells) (moved-fall plan s i) ∙ length_fallen s.cells i
 
-none_lowest : (cells : List Cell) → falls cells zero ≡ false
-unfolding falls
-none_lowest cells = refl
-
-past_as : (cells : List Cell) (r : Rank) (w a : ℕ) → ((k : ℕ) → has_bit w k ≡ (falls cells (k + 1) && is_past r (Fall (k + 1)))) → AreFalls cells a w →
-    PastAs cells r a
-unfolding AreFalls
-past_as cells r w a left word zero = rw (none_lowest cells) refl
-past_as cells r w a left word (suc k) =
-    subst (λ (n : ℕ). (falls cells n && is_past r (Fall n)) ≡ (falls cells n && nat_lt a n)) (next k) (sym (left k) ∙ word k)
-  where
-    next : (k : ℕ) → k + 1 ≡ suc k
-    next k = omega arith
-
--- the next Fall is the first past the rank
-is_first : (plan : Plan) (s : State) (r : Rank) (a i : ℕ) → PastAs s.cells r a → IsNextFall s.cells a i →
-    (is_past r (Fall i) ≡ true) × ((k : ℕ) → k < i → (falls s.cells k && is_past r (Fall k)) ≡ false)
-is_first plan s r a i past next = (here (past i) next.free, λ k below. past k ∙ by k below (nat_lt a k) refl)
-  where
-    here : (falls s.cells i && is_past r (Fall i)) ≡ (falls s.cells i && nat_lt a i) → falls s.cells i ≡ true → is_past r (Fall i) ≡ true
-    here e free =
-        let above = next.above in
-        let over : nat_lt a i ≡ true = grind (arith, nat_tests) in
-        (rw free at e) ∙ over
-
-    by : (k : ℕ) → k < i → (over : Bool) → nat_lt a k ≡ over → (falls s.cells k && over) ≡ false
-    by k below true e = let off = next.first k (grind (arith, nat_tests)) below in rw off refl
-    by k below false e = and-false (falls s.cells k)
-
-falls_by : (limit : ℕ) (p : Processor) (last : Option Move) (r : Rank) (pace : PaceCount) (tally : Tally) (a : ℕ) (stages : List ℕ) →
-    IsSweeping limit (rule_at p last pace tally) → PicksFrom pace p last r from_fall → length p.state.cells ≡ p.plan.stages →
-    PastAs p.state.cells r a → FallInTurn p.state.cells a stages → FallsBy limit p last r pace tally a stages
+falls_by : (limit : ℕ) (p : Processor) (last : Option Move) (pace : PaceCount) (tally : Tally) (a : ℕ) (stages : List ℕ) →
+    IsSweeping limit (rule_at p last pace tally) → PicksAbove pace p last a → length p.state.cells ≡ p.plan.stages →
+    FallInTurn p.state.cells a stages → FallsBy limit p last pace tally a stages
 unfolding fallen FallInTurn
-falls_by limit p last r pace tally a [] ready picked size past turns = record {
+falls_by limit p last pace tally a [] ready picked size turns = record {
   swept = subst (λ (t : Tally). SweepsTo limit silent (rule_at p last pace tally) (rule_at p last pace t)) (none_more tally)
       (no_turns limit silent (rule_at p last pace tally));
   ready = subst (λ (t : Tally). IsSweeping limit (rule_at p last pace t)) (none_more tally) ready;
   picked = picked;
-  past = past;
   plan = refl;
   size = size;
 }
   where
     none_more : (t : Tally) → t ≡ with_moves t 0
     none_more t = ap (λ (n : ℕ). record t { moves = n }) (omega arith)
-falls_by limit p last r pace tally a (i ∷ stages) ready picked size past turns =
-    let so_far = falls_by limit p last r pace tally a stages ready picked size past turns.0 in
+falls_by limit p last pace tally a (i ∷ stages) ready picked size turns =
+    let so_far = falls_by limit p last pace tally a stages ready picked size turns.0 in
     let q = fallen p stages in
     let count = length stages in
     let before = rule_at q (last_fall last stages) pace (with_moves tally count) in
@@ -127,10 +91,10 @@ falls_by limit p last r pace tally a (i ∷ stages) ready picked size past turns
     let few = few-stages limit before so_far.ready in
     let sized : length q.state.cells ≡ q.plan.stages = so_far.size ∙ ap (λ (l : Plan). l.stages) (sym so_far.plan) in
     let next = subst (λ (x : Processor). IsNextFall x.state.cells (last_of a stages) i) (sym (fallen-cells p stages)) turns.1 in
-    let first = is_first q.plan q.state (rank_after r stages) (last_of a stages) i so_far.past next in
+    let first = next-left q.plan q.state (last_of a stages) i (goes_on_so limit before so_far.ready) sized few next in
     let pick : PicksNext pace q (last_fall last stages) (Fall i) =
-    picked_here pace.rule held q.plan q.state (last_fall last stages) (rank_after r stages) (from_fall q.plan q.state) (Fall i) so_far.picked
-    (next-found q.plan q.state (rank_after r stages) i (goes_on_so limit before so_far.ready) sized few next.free first.0 first.1) in
+    picked_here pace.rule held q.plan q.state (last_fall last stages) (left_then Fall first.word from_meet q.plan q.state) (Fall i)
+    (so_far.picked first.word first.left) first.first in
     let new = after_move q (Fall i) in
     let turn : SweepsTo limit silent before (rule_at new (Some (Fall i)) pace (with_moves tally (count + 1))) =
     subst (λ (t : Tally). SweepsTo limit silent before (rule_at new (Some (Fall i)) pace t)) (one_more count)
@@ -141,8 +105,7 @@ falls_by limit p last r pace tally a (i ∷ stages) ready picked size past turns
       swept = subst (λ (n : ℕ). SweepsTo limit silent (rule_at p last pace tally) (rule_at new (Some (Fall i)) pace (with_moves tally n))) z
           (sweeps_on limit silent _ before _ so_far.swept turn);
       ready = subst (λ (n : ℕ). IsSweeping limit (rule_at new (Some (Fall i)) pace (with_moves tally n))) z here;
-      picked = fallen_on pace.rule (is_held new.plan pace.count) new.plan new.state i few;
-      past = λ k. refl;
+      picked = λ w left. fallen_on pace.rule (is_held new.plan pace.count) new.plan new.state i w few left;
       plan = so_far.plan;
       size = keeps_size q.plan q.state i ∙ so_far.size;
     }
@@ -156,14 +119,14 @@ falls_by limit p last r pace tally a (i ∷ stages) ready picked size past turns
 pub record FallsOnward (limit : ℕ) (p new : Processor) (last : Option Move) (pace : PaceCount) (tally : Tally) (count i : ℕ) : Type 0 where
   pub swept : SweepsTo limit silent (rule_at p last pace tally) (rule_at new (Some (Fall i)) pace (with_moves tally count))
   pub ready : IsSweeping limit (rule_at new (Some (Fall i)) pace (with_moves tally count))
-  pub picked : PicksFrom pace new (Some (Fall i)) (rank_of (Fall i)) from_meet
+  pub picked : PicksFrom pace new (Some (Fall i)) from_meet
   pub counts : tally.moves + count < 2 ^ 64
 
 -- one fell if the word has a stage
 some_fell : (cells new : List Cell) (w count i : ℕ) (f : FallsOn cells w new count i) → w < 2 ^ 32 → w ≢ 0 → (stages : List ℕ) → f.stages ≡ stages →
-    (last : Option Move) (r : Rank) → (last_fall last stages ≡ Some (Fall i)) × ((rank_after r stages ≡ rank_of (Fall i)) × (last_of f.start stages ≡ i))
+    (last : Option Move) → (last_fall last stages ≡ Some (Fall i)) × (last_of f.start stages ≡ i)
 unfolding AreFalls all_fallen
-some_fell cells new w count i f small some [] is last r = absurd (some (same-words w 0 small (omega arith) (λ k below. f.word k ∙ none k)))
+some_fell cells new w count i f small some [] is last = absurd (some (same-words w 0 small (omega arith) (λ k below. f.word k ∙ none k)))
   where
     new_is : new ≡ cells
     new_is = f.new_is ∙ ap (all_fallen cells) is
@@ -177,19 +140,32 @@ some_fell cells new w count i f small some [] is last r = absurd (some (same-wor
             let off : falls cells (k + 1) ≡ false = ap (λ (cs : List Cell). falls cs (k + 1)) (sym new_is) ∙ f.ends (k + 1) over in
             rw off refl
         by false e = and-false (falls cells (k + 1))
-some_fell cells new w count i f small some (j ∷ stages) is last r =
+some_fell cells new w count i f small some (j ∷ stages) is last =
     let e : i ≡ j = f.last_is ∙ ap (last_of 0) is in
-    rw e (refl, (refl, refl))
+    rw e (refl, refl)
 
-pub falls-onward : (limit : ℕ) (p new : Processor) (last : Option Move) (r : Rank) (pace : PaceCount) (tally : Tally) (w count i : ℕ) →
-    IsSweeping limit (rule_at p last pace tally) → PicksFrom pace p last r from_fall → length p.state.cells ≡ p.plan.stages →
-    AreLeft p.plan p.state r Fall w → FallsTo p new w count i → w < 2 ^ 32 → w ≢ 0 → FallsOnward limit p new last pace tally count i
-falls-onward limit p new last r pace tally w count i ready picked size left to small some =
+-- above the stage where the Falls start are all Falls that are allowed
+starts_above : (p : Processor) (pace : PaceCount) (last : Option Move) (w a : ℕ) → goes_on p.state ≡ true → length p.state.cells ≡ p.plan.stages →
+    PicksFrom pace p last from_fall → AreLeft p.plan p.state 0 Fall w → AreFalls p.state.cells a w → PicksAbove pace p last a
+unfolding AreFalls AreLeft passing_of
+starts_above p pace last w a on size picked all word v left =
+    picked_on pace.rule (is_held p.plan pace.count) p.plan p.state last (from_fall p.plan p.state) (left_then Fall v from_meet p.plan p.state)
+    (ap (λ (l : List Move). l ++ from_meet p.plan p.state) (same_listed Fall v (word_allowed p.plan p.state Fall) same)
+    ∙ all_falls p.plan p.state (word_allowed p.plan p.state Fall) refl) picked
+  where
+    same : (k : ℕ) → has_bit v k ≡ has_bit (word_allowed p.plan p.state Fall) k
+    same k =
+        let above : nat_lt 0 (k + 1) ≡ true = grind (arith, nat_tests) in
+        left-falls p.plan p.state a v on size left k ∙ sym (word k) ∙ all k ∙ rw above (and-true (has_bit (word_allowed p.plan p.state Fall) k))
+
+pub falls-onward : (limit : ℕ) (p new : Processor) (last : Option Move) (pace : PaceCount) (tally : Tally) (w count i : ℕ) →
+    IsSweeping limit (rule_at p last pace tally) → PicksFrom pace p last from_fall → length p.state.cells ≡ p.plan.stages →
+    AreLeft p.plan p.state 0 Fall w → FallsTo p new w count i → w < 2 ^ 32 → w ≢ 0 → FallsOnward limit p new last pace tally count i
+falls-onward limit p new last pace tally w count i ready picked size left to small some =
     let f = to.falls in
     let on = goes_on_so limit (rule_at p last pace tally) ready in
-    let past = past_as p.state.cells r w f.start (left-falls p.plan p.state r w on size left) f.word in
-    let by = falls_by limit p last r pace tally f.start f.stages ready picked size past f.in_turn in
-    let ends = some_fell p.state.cells new.state.cells w count i f small some f.stages refl last r in
+    let by = falls_by limit p last pace tally f.start f.stages ready (starts_above p pace last w f.start on size picked left f.word) size f.in_turn in
+    let ends = some_fell p.state.cells new.state.cells w count i f small some f.stages refl last in
     let place = λ (q : Processor) (o : Option Move) (n : ℕ). rule_at q o pace (with_moves tally n) in
     let same = ap (λ (q : Processor). place q (last_fall last f.stages) (length f.stages)) (sym to.is)
     ∙ ap (λ (o : Option Move). place new o (length f.stages)) ends.0 ∙ ap (place new (Some (Fall i))) (sym f.count_is) in
@@ -198,13 +174,14 @@ falls-onward limit p new last r pace tally w count i ready picked size left to s
     ap (λ (q : Processor). length q.state.cells) to.is ∙ by.size ∙ ap (λ (l : Plan). l.stages) (sym by.plan)
     ∙ ap (λ (q : Processor). q.plan.stages) (sym to.is) in
     let at = (come-counts limit silent _ here.come).moves in
+    let held = is_held new.plan pace.count in
+    let none = none-left new.plan new.state i (goes_on_so limit _ here) sized (λ k. over (λ j above. f.ends j (rw ends.1 above)) k (nat_lt i k) refl) in
     record {
       swept = subst (SweepsTo limit silent (rule_at p last pace tally)) same by.swept;
       ready = here;
-      picked = picked_on _ _ new.plan new.state (Some (Fall i)) (rank_of (Fall i)) (from_fall new.plan new.state) (from_meet new.plan new.state)
-          (none-found new.plan new.state (rank_of (Fall i)) (goes_on_so limit _ here) sized
-          (λ k. over (λ j above. f.ends j (rw ends.1.1 above)) k (nat_lt i k) refl))
-          (fallen_on pace.rule (is_held new.plan pace.count) new.plan new.state i (few-stages limit _ here));
+      picked = picked_on pace.rule held new.plan new.state (Some (Fall i)) (left_then Fall 0 from_meet new.plan new.state) (from_meet new.plan new.state)
+          (sym (no-falls Fall (from_meet new.plan new.state)))
+          (fallen_on pace.rule held new.plan new.state i 0 (few-stages limit _ here) none);
       counts = omega (arith, at);
     }
   where

@@ -1,5 +1,5 @@
 -- Turns of the rule: what a move of a sweep leaves as it is, and where some turns lead.
-use Rattle.std.specs.Prelude.{IfSome, MatchOption, find, is_some, slice_get, slice_set}
+use Rattle.std.specs.Prelude.{IfSome, MatchOption, is_some, not, slice_get, slice_set}
 use Rattle.std.proofs.Common.{◌≡◌, ◌≢◌, ◌∙◌, sym, refl, ap, subst, ℕ, zero, suc, ◌+◌, ◌-◌, ◌*◌, ◌≤◌, ◌<◌, ◌^◌, List, [], ◌∷◌, Bool, true, false, cond, Option, Some, None, Ok, arith}
 use Rattle.std.proofs.Math.Nat.{min-eq_left, min-le_right}
 use Rattle.run_options.specs.declared.guess_rule.GuessRule.{GuessRule}
@@ -29,11 +29,9 @@ use Rattle.cf_core.specs.Asking.{AsksInput, AsksOutput}
 use Rattle.cf_core.specs.Processors.{IsProcessor, Processor, after_move}
 use Rattle.cf_core.proofs.Steps.{move-makes}
 use Rattle.cf_index.specs.Left.{AreLeft, IsLowest, IsMadeAt}
-use Rattle.cf_index.specs.Order.{kind_place, leave_place, slide_place}
-use Rattle.cf_index.specs.PickedFrom.{IsLast, IsPicked, IsPickedFrom}
-use Rattle.cf_index.specs.Ranks.{is_past, rank_of}
+use Rattle.cf_index.specs.Order.{kind_place, leave_place}
+use Rattle.cf_index.specs.PickedFrom.{IsLast, IsPicked, IsPickedFrom, from_end}
 use Rattle.cf_index.specs.Words.{goes_on}
-use Rattle.cf_index.specs.declared.rank.Rank.{Rank}
 use Rattle.cf_sched.specs.Paces.{PaceCount, offered_by, saw, stopped}
 use Rattle.cf_sched.specs.Policies.{round_on, round_pick}
 use Rattle.cf_report.specs.declared.tally.Tally.{Tally}
@@ -43,7 +41,7 @@ use Rattle.cf_run.specs.Made.{CanCount, Made, counted_event, shown}
 use Rattle.cf_run.specs.Moving.{RunPlace, MoveDoes, run_place_of}
 use Rattle.cf_run.specs.Policies.{Turned, chooser, choice, most_moves}
 use Rattle.cf_run.specs.Reaching.{GoesOn, IsOver}
-use Rattle.cf_run.specs.Sweeps.{HasCome, HasPicked, IsSweeping, Keeps, PicksNext, RulePlace, SweepsTo, TurnsOnce, TurnsTo, exposing, rule_at, silent}
+use Rattle.cf_run.specs.Sweeps.{HasCome, HasPicked, IsSweeping, Keeps, PicksNext, RulePlace, SweepsFrom, SweepsOn, SweepsTo, TurnsOnce, TurnsTo, exposing, rule_at, silent}
 use Rattle.cf_run.proofs.ByRule.{ruled-allowed}
 use Rattle.cf_run.proofs.Coming.{asked-comes, comes-bounded, comes-counted, comes-more, seen-count, turned-counted, turned-plan, turned-within}
 use Rattle.cf_run.proofs.Occupied.{same-pace}
@@ -352,6 +350,14 @@ pub not-over : (limit : ℕ) (s : State) (o : Option Answer) → MatchOption o (
 not-over limit s None goes none = goes
 not-over limit s (Some answer) over none = absurd (cc)
 
+pub set : (b : Bool) → not b ≡ false → b ≡ true
+set true e = refl
+set false e = absurd (cc)
+
+pub unset : (b : Bool) → not b ≡ true → b ≡ false
+unset false e = refl
+unset true e = absurd (cc)
+
 -- what holds where there is something
 pub known-there : {A P : Type 0} (o : Option A) → IfSome o (λ x. P) → is_some o ≡ true → P
 known-there None h some = absurd (cc)
@@ -456,45 +462,48 @@ within-sweeps limit now core m tally e after before ready picked is event counts
     (same-pace plan now.core.state now.pace m e after before free event (count-stops limit silent now ready.come))
     (ap (λ (p : Processor). is_drained p.state) (sym is))
 
--- Where the next pick is looked for --
+-- What is picked next --
 
--- if the last pick and its rank are the same, so is where the next one is looked for
-pub picks_there : (rule : GuessRule) (held : Bool) (plan : Plan) (s : State) (m last : Move) (r : Rank) (xs : List Move) → last ≡ m → r ≡ rank_of m →
-    IsPickedFrom rule held plan s (Some m) (rank_of m) xs → IsPickedFrom rule held plan s (Some last) r xs
-picks_there rule held plan s m last r xs is at picked =
-    subst (λ (n : Move). IsPickedFrom rule held plan s (Some n) r xs) (sym is)
-    (subst (λ (q : Rank). IsPickedFrom rule held plan s (Some m) q xs) (sym at) picked)
-
--- if these moves have none past the rank, only an Issue can come after the last pick
-pub picks_last : (rule : GuessRule) (held : Bool) (plan : Plan) (s : State) (last : Option Move) (r : Rank) (xs : List Move) →
-    IsPickedFrom rule held plan s last r xs → find (is_past r) xs ≡ None → IsLast plan s last
+pub picked_here : (rule : GuessRule) (held : Bool) (plan : Plan) (s : State) (last : Option Move) (xs : List Move) (m : Move) →
+    IsPickedFrom rule held plan s last xs → slice_get xs 0 ≡ Some m → IsPicked rule held plan s last m
 unfolding IsPickedFrom
-picks_last rule held plan s last r xs picked none = picked.gone none
+picked_here rule held plan s last xs m picked found = picked.here m found
 
-pub picks_outside : (rule : GuessRule) (held : Bool) (plan : Plan) (s : State) (last : Option Move) (r : Rank) (xs : List Move) →
-    IsPickedFrom rule held plan s last r xs → r.kind ≢ slide_place
-unfolding IsPickedFrom
-picks_outside rule held plan s last r xs picked = picked.outside
+-- Sweep after sweep --
 
-pub picked_here : (rule : GuessRule) (held : Bool) (plan : Plan) (s : State) (last : Option Move) (r : Rank) (xs : List Move) (m : Move) →
-    IsPickedFrom rule held plan s last r xs → find (is_past r) xs ≡ Some m → IsPicked rule held plan s last m
+pub swept_none : (limit : ℕ) (part : Plan → State → List Move) (at : RulePlace) → SweepsFrom limit part at → SweepsOn limit part at at
+swept_none limit part at from = record { swept = no_turns limit silent at; from = from }
+
+pub goes_on_from : (limit : ℕ) (part : Plan → State → List Move) (at : RulePlace) → SweepsFrom limit part at → goes_on at.core.state ≡ true
+goes_on_from limit part at from = goes_on_so limit at from.ready
+
+-- if no kind is left, only an Issue can come after the last pick
+pub picks_last : (limit : ℕ) (at : RulePlace) → SweepsFrom limit from_end at → IsLast at.core.plan at.core.state at.last
 unfolding IsPickedFrom
-picked_here rule held plan s last r xs m picked found = picked.here m found
+picks_last limit at from = from.picked.gone refl
+
+pub swept_from : (limit : ℕ) (part : Plan → State → List Move) (now new : RulePlace) → SweepsOn limit part now new → SweepsFrom limit part new
+swept_from limit part now new on = on.from
+
+pub swept_on : (limit : ℕ) (part beyond : Plan → State → List Move) (now between new : RulePlace) → SweepsOn limit part now between →
+    SweepsOn limit beyond between new → SweepsOn limit beyond now new
+swept_on limit part beyond now between new first next = record {
+  swept = sweeps_on limit silent now between new first.swept next.swept;
+  from = next.from;
+}
 
 -- What a sweep has left of a kind --
 
 -- the word of what is left after the move at the lowest stage that was left
-pub left-on : (old new : Processor) (kind : ℕ → Move) (r place : Rank) (w after i : ℕ) → new ≡ after_move old (kind i) → place ≡ rank_of (kind i) →
-    IsProcessor old.plan old.state → AreLeft old.plan old.state r kind w → IsLowest w i →
-    ((s : State) (from : Rank) → IsProcessor new.plan s → IsMadeAt new.plan s new.state from kind w i →
-    AreLeft new.plan new.state (rank_of (kind i)) kind after) →
-    AreLeft new.plan new.state place kind after
-left-on old new kind r place w after i made at facts left lowest so =
+pub left-on : (old new : Processor) (kind : ℕ → Move) (a w after i : ℕ) → new ≡ after_move old (kind i) → IsProcessor old.plan old.state →
+    AreLeft old.plan old.state a kind w → IsLowest w i →
+    ((s : State) (b : ℕ) → IsProcessor new.plan s → IsMadeAt new.plan s new.state b kind w i → AreLeft new.plan new.state i kind after) →
+    AreLeft new.plan new.state i kind after
+left-on old new kind a w after i made facts left lowest so =
     let plan = ap (λ (p : Processor). p.plan) made in
     let state = ap (λ (p : Processor). p.state) made in
-    subst (λ (q : Rank). AreLeft new.plan new.state q kind after) (sym at)
-    (so old.state r (subst (λ (l : Plan). IsProcessor l old.state) (sym plan) facts) (record {
-      left = subst (λ (l : Plan). AreLeft l old.state r kind w) (sym plan) left;
+    so old.state a (subst (λ (l : Plan). IsProcessor l old.state) (sym plan) facts) (record {
+      left = subst (λ (l : Plan). AreLeft l old.state a kind w) (sym plan) left;
       lowest = lowest;
       moved_is = subst (λ (l : Plan). new.state ≡ moved l old.state (kind i)) (sym plan) state;
-    }))
+    })

@@ -12,7 +12,6 @@ use Rattle.cf_bind.specs.declared.moves.Move.{Move}
 use Rattle.cf_semantics.specs.moves.Holding.{is_held}
 use Rattle.cf_semantics.specs.state.State.{State}
 use Rattle.cf_index.specs.PickedFrom.{IsPicked, IsPickedFrom}
-use Rattle.cf_index.specs.declared.rank.Rank.{Rank}
 use Rattle.cf_core.specs.Processors.{IsOpened, Processor}
 use Rattle.cf_report.specs.declared.tally.Tally.{Tally}
 use Rattle.cf_sched.specs.Paces.{PaceCount, stopped}
@@ -103,7 +102,16 @@ pub record IsSweeping (limit : ℕ) (at : RulePlace) : Type 0 where
 abbrev pub PicksNext : PaceCount → Processor → (last : Option Move) → Move → Type 0
 PicksNext pace core last mv = IsPicked pace.rule (is_held core.plan pace.count) core.plan core.state last mv
 
--- the first of the moves of this part that is past the rank is what the rule picks after its last pick
-abbrev pub PicksFrom : PaceCount → Processor → (last : Option Move) → Rank → (part : Plan → State → List Move) → Type 0
-PicksFrom pace core last rank part =
-    IsPickedFrom pace.rule (is_held core.plan pace.count) core.plan core.state last rank (part core.plan core.state)
+-- the first move of this part of what is allowed is what the rule picks after its last pick
+abbrev pub PicksFrom : PaceCount → Processor → (last : Option Move) → (part : Plan → State → List Move) → Type 0
+PicksFrom pace core last part = IsPickedFrom pace.rule (is_held core.plan pace.count) core.plan core.state last (part core.plan core.state)
+
+-- a sweep is here: the run goes on, and the rule picks the first move of this part next
+pub record SweepsFrom (limit : ℕ) (part : Plan → State → List Move) (at : RulePlace) : Type 0 where
+  pub ready : IsSweeping limit at
+  pub picked : PicksFrom at.pace at.core at.last part
+
+-- a sweep leads from one place to another, where the rule picks the first move of this part next
+pub record SweepsOn (limit : ℕ) (part : Plan → State → List Move) (now new : RulePlace) : Type 0 where
+  pub swept : SweepsTo limit silent now new
+  pub from : SweepsFrom limit part new

@@ -4,7 +4,6 @@ ghost use Rattle.std.specs.Prelude.{◌≡◌, ◌-◌, ◌≤◌, Some, true};
 ghost use Rattle.cf_io.specs.Causes.{HasCause};
 ghost use Rattle.run_finishes.specs.declared.finish.Scripted.TheVariants as scripted;
 ghost use Rattle.cf_index.specs.PickedFrom.{from_emit};
-ghost use Rattle.cf_index.specs.Ranks.{first_rank};
 ghost use Rattle.cf_sched.specs.Policies.{round_on, round_pick};
 ghost use Rattle.cf_run.specs.Ending.{EndsSequentially};
 ghost use Rattle.cf_run.specs.Moving.{place_by};
@@ -32,7 +31,7 @@ use run_options::{Reporting, Show};
 fn starts_over(core: &Core, last: Move, round: &Round, pace: &Pace) -> bool
     requires last { round.now ≡ Some last }
     requires stages { pace.now.stages ≡ core.now.plan.stages }
-    ensures { result ≡ true → PicksFrom pace.now core.now (Some last) first_rank from_emit }
+    ensures { result ≡ true → PicksFrom pace.now core.now (Some last) from_emit }
 {
     let _last = last;
     let _stages = core.layout().stages();

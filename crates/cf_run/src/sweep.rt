@@ -1,46 +1,26 @@
 //! A sweep of the rule: Emit, then all Climbs, all Falls and so on up to all Launches that it picks one after another. It uses
 //! neither stream, and nothing of it is shown.
-#![tactic(auto, using(crate::proofs::Turning::goes_on_so, crate::proofs::Turning::no_turns, crate::proofs::Turning::sweeps_on))]
+#![tactic(auto, using(crate::proofs::Turning::goes_on_from, crate::proofs::Turning::goes_on_so, crate::proofs::Turning::swept_from, crate::proofs::Turning::swept_on))]
 
-ghost use Rattle.std.specs.Prelude.{◌≡◌, ◌≢◌, ◌+◌, ◌-◌, ◌<◌, ◌≤◌, Some};
+ghost use Rattle.std.specs.Prelude.{◌≡◌, ◌≢◌, ℕ, ◌+◌, ◌-◌, ◌<◌, ◌≤◌, Some};
 ghost use Rattle.cf_bind.specs.declared.moves.Move.TheVariants as mv;
 ghost use Rattle.cf_core.specs.Climbing.{ClimbsTo, climbed};
 ghost use Rattle.cf_core.specs.Falling.{BarNoLaunch};
 ghost use Rattle.cf_core.specs.Processors.{IsProcessor, after_move};
 ghost use Rattle.cf_index.specs.Left.{AreLeft};
 ghost use Rattle.cf_index.specs.Order.{kind_place, leave_place};
-ghost use Rattle.cf_index.specs.PickedFrom.{from_climb, from_emit, from_fall, from_meet, outward_on};
-ghost use Rattle.cf_index.specs.Ranks.{first_rank, rank_of};
-ghost use Rattle.cf_run.specs.Sweeps.{IsSweeping, PicksFrom, PicksNext, SweepsTo, rule_at, silent};
+ghost use Rattle.cf_index.specs.PickedFrom.{from_climb, from_emit, from_fall, from_meet, left_then, outward_on};
+ghost use Rattle.cf_run.specs.Sweeps.{IsSweeping, PicksFrom, PicksNext, SweepsFrom, SweepsOn, SweepsTo, rule_at, silent};
 
 use crate::counting::count;
 use cf_bind::Move;
 use cf_core::Core;
 use cf_index::{
-    ClimbKind, EmitKind, ExecuteKind, FallKind, LaunchKind, MeetKind, OnceKind, Rank, SendKind,
-    StageKind, climbs_left, falls_bar_no_launch, results_at_rest,
+    EmitKind, ExecuteKind, FallKind, LaunchKind, MeetKind, OnceKind, SendKind, StageKind,
+    all_climbs, climbs_left, falls_bar_no_launch, lowest_stage, results_at_rest,
 };
 use cf_report::Tally;
 use cf_sched::Pace;
-
-/// Where a sweep is: the last pick of the rule, and the rank after which it looks for the next one.
-#[derive(Clone, Copy)]
-pub(crate) struct SweepPlace {
-    pub(crate) last: Move,
-    pub(crate) rank: Rank,
-}
-
-/// Where the sweep is after this pick.
-#[inline(always)]
-fn place_after(mv: Move) -> SweepPlace
-    ensures last { result.last ≡ mv }
-    ensures rank { result.rank ≡ rank_of mv }
-{
-    SweepPlace {
-        last: mv,
-        rank: Rank::of(mv),
-    }
-}
 
 /// Makes and counts the rule's pick, which is not Serve, and records it in the pace.
 #[inline(always)]
@@ -90,7 +70,7 @@ pub(crate) fn make_within(
     count(tally, mv, &event);
 }
 
-/// Makes the move of the kind at the stage, which the rule picks, and answers where the sweep is then.
+/// Makes the move of the kind at the stage, which the rule picks.
 #[inline(always)]
 fn make_at_stage<T: StageKind>(
     core: &mut Core,
@@ -99,50 +79,44 @@ fn make_at_stage<T: StageKind>(
     pace: &Pace,
     limit: u64,
     tally: &mut Tally,
-) -> SweepPlace
+) -> Move
     requires ready { IsSweeping limit (rule_at core.old (Some last) pace.now tally.old) }
     requires picked { PicksNext pace.now core.old (Some last) (T.at_stage stage) }
+    ensures value { result ≡ T.at_stage stage }
     ensures facts { IsProcessor core.old.plan core.old.state }
     ensures made { core.new ≡ after_move core.old (T.at_stage stage) }
-    ensures rank { result.rank ≡ rank_of (T.at_stage stage) }
     ensures swept { SweepsTo limit silent (rule_at core.old (Some last) pace.now tally.old)
-        (rule_at core.new (Some result.last) pace.now tally.new) }
-    ensures ready { IsSweeping limit (rule_at core.new (Some result.last) pace.now tally.new) }
-    ensures picked { PicksFrom pace.now core.new (Some result.last) result.rank T.from }
+        (rule_at core.new (Some result) pace.now tally.new) }
+    ensures ready { IsSweeping limit (rule_at core.new (Some result) pace.now tally.new) }
+    ensures picked { (w : ℕ) → AreLeft core.new.plan core.new.state stage T.at_stage w →
+        PicksFrom pace.now core.new (Some result) (left_then T.at_stage w T.beyond) }
     ensures counted { tally.new.moves ≡ tally.old.moves + 1 }
 {
     let mv = T::at(stage);
     make_within(core, last, mv, pace, limit, tally);
-    place_after(mv)
+    mv
 }
 
-/// Makes the moves of the kind that the rule picks one after another.
+/// Makes the moves of the kind that the rule picks one after another, and answers its last pick.
 #[inline(always)]
 pub(crate) fn sweep_kind<T: StageKind>(
     core: &mut Core,
-    from: SweepPlace,
+    last: Move,
     pace: &Pace,
     limit: u64,
     tally: &mut Tally,
-) -> SweepPlace
-    requires ready { IsSweeping limit (rule_at core.old (Some from.last) pace.now tally.old) }
-    requires picked { PicksFrom pace.now core.old (Some from.last) from.rank T.from }
-    ensures swept { SweepsTo limit silent (rule_at core.old (Some from.last) pace.now tally.old)
-        (rule_at core.new (Some result.last) pace.now tally.new) }
-    ensures ready { IsSweeping limit (rule_at core.new (Some result.last) pace.now tally.new) }
-    ensures picked { PicksFrom pace.now core.new (Some result.last) result.rank T.beyond }
+) -> Move
+    requires from { SweepsFrom limit T.from (rule_at core.old (Some last) pace.now tally.old) }
+    ensures on { SweepsOn limit T.beyond (rule_at core.old (Some last) pace.now tally.old)
+        (rule_at core.new (Some result) pace.now tally.new) }
 {
-    let mut place = from;
-    let mut left = T::left(core, from.rank);
-    loop {
-        match T::next(core, place.rank, left) {
-            Some(stage) => {
-                place = make_at_stage::<T>(core, place.last, stage, pace, limit, tally);
-                left = T::left_after(core, stage, left);
-            }
-            None => return place,
-        }
+    let mut last = last;
+    let mut left = T::left(core);
+    while let Some(stage) = lowest_stage(left) {
+        last = make_at_stage::<T>(core, last, stage, pace, limit, tally);
+        left = T::left_after(core, stage, left);
     }
+    last
 }
 
 /// Lets the instruction of the stage, whose Climb the rule picks, climb on as far as it can, and answers the stage that it
@@ -172,34 +146,21 @@ fn make_climbs(
     top
 }
 
-/// Makes the Climbs that the rule picks one after another.
+/// Makes the Climbs that the rule picks one after another, and answers its last pick.
 #[inline(always)]
-fn sweep_climbs(
-    core: &mut Core,
-    from: SweepPlace,
-    pace: &Pace,
-    limit: u64,
-    tally: &mut Tally,
-) -> SweepPlace
-    requires ready { IsSweeping limit (rule_at core.old (Some from.last) pace.now tally.old) }
-    requires picked { PicksFrom pace.now core.old (Some from.last) from.rank from_climb }
-    ensures swept { SweepsTo limit silent (rule_at core.old (Some from.last) pace.now tally.old)
-        (rule_at core.new (Some result.last) pace.now tally.new) }
-    ensures ready { IsSweeping limit (rule_at core.new (Some result.last) pace.now tally.new) }
-    ensures picked { PicksFrom pace.now core.new (Some result.last) result.rank from_fall }
+fn sweep_climbs(core: &mut Core, last: Move, pace: &Pace, limit: u64, tally: &mut Tally) -> Move
+    requires from { SweepsFrom limit from_climb (rule_at core.old (Some last) pace.now tally.old) }
+    ensures on { SweepsOn limit from_fall (rule_at core.old (Some last) pace.now tally.old)
+        (rule_at core.new (Some result) pace.now tally.new) }
 {
-    let mut place = from;
-    let mut left = ClimbKind::left(core, from.rank);
-    loop {
-        match ClimbKind::next(core, place.rank, left) {
-            Some(stage) => {
-                let top = make_climbs(core, place.last, stage, pace, limit, tally);
-                place = place_after(Move::Climb(top - 1));
-                left = climbs_left(stage, left);
-            }
-            None => return place,
-        }
+    let mut last = last;
+    let mut left = all_climbs(core);
+    while let Some(stage) = lowest_stage(left) {
+        let top = make_climbs(core, last, stage, pace, limit, tally);
+        last = Move::Climb(top - 1);
+        left = climbs_left(stage, left);
     }
+    last
 }
 
 /// Makes the Falls from these stages, of which there is one, and those from the stages above that are allowed after them. Each is the
@@ -207,27 +168,24 @@ fn sweep_climbs(
 #[inline(always)]
 fn make_falls(
     core: &mut Core,
-    from: SweepPlace,
+    last: Move,
     left: u32,
     pace: &Pace,
     limit: u64,
     tally: &mut Tally,
-) -> SweepPlace
-    requires ready { IsSweeping limit (rule_at core.old (Some from.last) pace.now tally.old) }
-    requires picked { PicksFrom pace.now core.old (Some from.last) from.rank from_fall }
-    requires left { AreLeft core.old.plan core.old.state from.rank mv.Fall left }
+) -> Move
+    requires from { SweepsFrom limit from_fall (rule_at core.old (Some last) pace.now tally.old) }
+    requires left { AreLeft core.old.plan core.old.state 0 mv.Fall left }
     requires some { left ≢ 0 }
     requires quiet { BarNoLaunch core.old.plan core.old.state }
-    ensures swept { SweepsTo limit silent (rule_at core.old (Some from.last) pace.now tally.old)
-        (rule_at core.new (Some result.last) pace.now tally.new) }
-    ensures ready { IsSweeping limit (rule_at core.new (Some result.last) pace.now tally.new) }
-    ensures picked { PicksFrom pace.now core.new (Some result.last) result.rank from_meet }
+    ensures on { SweepsOn limit from_meet (rule_at core.old (Some last) pace.now tally.old)
+        (rule_at core.new (Some result) pace.now tally.new) }
 {
-    let (_from, _pace, _layout) = (from, pace, core.layout());
+    let (_last, _pace, _layout) = (last, pace, core.layout());
     let resting = results_at_rest(core);
     let fallen = core.fall_on(left, resting);
     tally.moves += fallen.count as u64;
-    place_after(Move::Fall(fallen.last))
+    Move::Fall(fallen.last)
 }
 
 /// Makes the Falls that the rule picks one after another, each by itself.
@@ -235,48 +193,36 @@ fn make_falls(
 #[inline(never)]
 fn sweep_falls_singly(
     core: &mut Core,
-    from: SweepPlace,
+    last: Move,
     pace: &Pace,
     limit: u64,
     tally: &mut Tally,
-) -> SweepPlace
-    requires ready { IsSweeping limit (rule_at core.old (Some from.last) pace.now tally.old) }
-    requires picked { PicksFrom pace.now core.old (Some from.last) from.rank from_fall }
-    ensures swept { SweepsTo limit silent (rule_at core.old (Some from.last) pace.now tally.old)
-        (rule_at core.new (Some result.last) pace.now tally.new) }
-    ensures ready { IsSweeping limit (rule_at core.new (Some result.last) pace.now tally.new) }
-    ensures picked { PicksFrom pace.now core.new (Some result.last) result.rank from_meet }
+) -> Move
+    requires from { SweepsFrom limit from_fall (rule_at core.old (Some last) pace.now tally.old) }
+    ensures on { SweepsOn limit from_meet (rule_at core.old (Some last) pace.now tally.old)
+        (rule_at core.new (Some result) pace.now tally.new) }
 {
-    sweep_kind::<FallKind>(core, from, pace, limit, tally)
+    sweep_kind::<FallKind>(core, last, pace, limit, tally)
 }
 
-/// Makes the Falls that the rule picks one after another.
+/// Makes the Falls that the rule picks one after another, and answers its last pick.
 #[inline(always)]
-fn sweep_falls(
-    core: &mut Core,
-    from: SweepPlace,
-    pace: &Pace,
-    limit: u64,
-    tally: &mut Tally,
-) -> SweepPlace
-    requires ready { IsSweeping limit (rule_at core.old (Some from.last) pace.now tally.old) }
-    requires picked { PicksFrom pace.now core.old (Some from.last) from.rank from_fall }
-    ensures swept { SweepsTo limit silent (rule_at core.old (Some from.last) pace.now tally.old)
-        (rule_at core.new (Some result.last) pace.now tally.new) }
-    ensures ready { IsSweeping limit (rule_at core.new (Some result.last) pace.now tally.new) }
-    ensures picked { PicksFrom pace.now core.new (Some result.last) result.rank from_meet }
+fn sweep_falls(core: &mut Core, last: Move, pace: &Pace, limit: u64, tally: &mut Tally) -> Move
+    requires from { SweepsFrom limit from_fall (rule_at core.old (Some last) pace.now tally.old) }
+    ensures on { SweepsOn limit from_meet (rule_at core.old (Some last) pace.now tally.old)
+        (rule_at core.new (Some result) pace.now tally.new) }
 {
-    let left = FallKind::left(core, from.rank);
+    let left = FallKind::left(core);
     if left == 0 {
-        from
+        last
     } else if falls_bar_no_launch(core) {
-        make_falls(core, from, left, pace, limit, tally)
+        make_falls(core, last, left, pace, limit, tally)
     } else {
-        sweep_falls_singly(core, from, pace, limit, tally)
+        sweep_falls_singly(core, last, pace, limit, tally)
     }
 }
 
-/// Makes the move of the kind, which the rule picks, and answers where the sweep is then.
+/// Makes the move of a kind that has only one, which the rule picks.
 #[inline(always)]
 fn make_only<T: OnceKind>(
     core: &mut Core,
@@ -284,45 +230,42 @@ fn make_only<T: OnceKind>(
     pace: &mut Pace,
     limit: u64,
     tally: &mut Tally,
-) -> SweepPlace
+) -> Move
+    requires other { kind_place T.only_move ≢ leave_place }
     requires ready { IsSweeping limit (rule_at core.old (Some last) pace.old tally.old) }
     requires picked { PicksNext pace.old core.old (Some last) T.only_move }
-    ensures swept { SweepsTo limit silent (rule_at core.old (Some last) pace.old tally.old)
-        (rule_at core.new (Some result.last) pace.new tally.new) }
-    ensures ready { kind_place T.only_move ≢ leave_place → IsSweeping limit (rule_at core.new (Some result.last) pace.new tally.new) }
-    ensures picked { PicksFrom pace.new core.new (Some result.last) result.rank T.beyond }
-    ensures counted { tally.new.moves ≡ tally.old.moves + 1 }
+    ensures on { SweepsOn limit T.beyond (rule_at core.old (Some last) pace.old tally.old)
+        (rule_at core.new (Some result) pace.new tally.new) }
 {
     let mv = T::only();
     make_picked(core, last, mv, pace, limit, tally);
-    place_after(mv)
+    mv
 }
 
-/// Makes the move of a kind that has only one, if the rule picks it. After a Leave the run may be over.
+/// Makes the move of a kind that has only one, but not a Leave, after which the run may be over, if the rule picks it; and answers its
+/// last pick.
 #[inline(always)]
 pub(crate) fn sweep_once<T: OnceKind>(
     core: &mut Core,
-    from: SweepPlace,
+    last: Move,
     pace: &mut Pace,
     limit: u64,
     tally: &mut Tally,
-) -> SweepPlace
-    requires ready { IsSweeping limit (rule_at core.old (Some from.last) pace.old tally.old) }
-    requires picked { PicksFrom pace.old core.old (Some from.last) from.rank T.from }
-    ensures swept { SweepsTo limit silent (rule_at core.old (Some from.last) pace.old tally.old)
-        (rule_at core.new (Some result.last) pace.new tally.new) }
-    ensures ready { kind_place T.only_move ≢ leave_place → IsSweeping limit (rule_at core.new (Some result.last) pace.new tally.new) }
-    ensures picked { PicksFrom pace.new core.new (Some result.last) result.rank T.beyond }
+) -> Move
+    requires other { kind_place T.only_move ≢ leave_place }
+    requires from { SweepsFrom limit T.from (rule_at core.old (Some last) pace.old tally.old) }
+    ensures on { SweepsOn limit T.beyond (rule_at core.old (Some last) pace.old tally.old)
+        (rule_at core.new (Some result) pace.new tally.new) }
 {
-    if T::is_left(core, from.rank) {
-        make_only::<T>(core, from.last, pace, limit, tally)
+    if T::is_left(core) {
+        make_only::<T>(core, last, pace, limit, tally)
     } else {
-        from
+        last
     }
 }
 
-/// Makes the moves of Emit and of each kind over the stages that the rule picks one after another, until it picks
-/// another move, if the search starts over after the last pick.
+/// Makes the moves of Emit and of each kind over the stages that the rule picks one after another, if it picks the first of these next;
+/// and answers its last pick.
 // It is a part of the loop over rounds, of which the caller makes a call.
 #[inline(always)]
 pub(crate) fn sweep_stages(
@@ -331,19 +274,12 @@ pub(crate) fn sweep_stages(
     pace: &mut Pace,
     limit: u64,
     tally: &mut Tally,
-) -> SweepPlace
-    requires ready { IsSweeping limit (rule_at core.old (Some last) pace.old tally.old) }
-    requires picked { PicksFrom pace.old core.old (Some last) first_rank from_emit }
-    ensures swept { SweepsTo limit silent (rule_at core.old (Some last) pace.old tally.old)
-        (rule_at core.new (Some result.last) pace.new tally.new) }
-    ensures ready { IsSweeping limit (rule_at core.new (Some result.last) pace.new tally.new) }
-    ensures picked { PicksFrom pace.new core.new (Some result.last) result.rank outward_on }
+) -> Move
+    requires from { SweepsFrom limit from_emit (rule_at core.old (Some last) pace.old tally.old) }
+    ensures on { SweepsOn limit outward_on (rule_at core.old (Some last) pace.old tally.old)
+        (rule_at core.new (Some result) pace.new tally.new) }
 {
-    let from = SweepPlace {
-        last,
-        rank: Rank::first(),
-    };
-    let emitted = sweep_once::<EmitKind>(core, from, pace, limit, tally);
+    let emitted = sweep_once::<EmitKind>(core, last, pace, limit, tally);
     let climbed = sweep_climbs(core, emitted, pace, limit, tally);
     let fallen = sweep_falls(core, climbed, pace, limit, tally);
     let met = sweep_kind::<MeetKind>(core, fallen, pace, limit, tally);

@@ -1,4 +1,4 @@
-use Rattle.std.proofs.Common.{◌≤◌, ◌∙◌, ap, arith}
+use Rattle.std.proofs.Common.{◌≤◌, ◌∙◌, ap}
 use Rattle.std.specs.Prelude.{find}
 use Rattle.cf_index.specs.Ranks.{is_past}
 use Rattle.cf_index.proofs.AllowedWords.{climb-on}

@@ -1,5 +1,5 @@
 -- The words are those of what is allowed.
-use Rattle.std.proofs.Common.{◌≤◌, ◌∙◌, ap, arith}
+use Rattle.std.proofs.Common.{◌≤◌, ◌∙◌, ap}
 use Rattle.cf_index.specs.Listed.{passing_moves}
 use Rattle.cf_index.proofs.AllowedWords.{passing-moves}
 use Rattle.cf_index.proofs.fill.passing.Goals as goal

@@ -1,4 +1,4 @@
-use Rattle.std.proofs.Common.{◌≤◌, ◌∙◌, ◌∷◌, ◌++◌, [], List, ap, sym, arith}
+use Rattle.std.proofs.Common.{◌≤◌, ◌∙◌, ◌∷◌, ◌++◌, [], List, ap, sym}
 use Rattle.std.specs.Prelude.{filter, find}
 use Rattle.std.proofs.lemmas.List.Elements.{filter-append}
 use Rattle.cf_bind.specs.declared.moves.Move.{Move}

@@ -1,4 +1,4 @@
-use Rattle.std.proofs.Common.{◌≡◌, ◌∙◌, length}
+use Rattle.std.proofs.Common.{◌≡◌, length}
 use Rattle.cf_bind.specs.declared.moves.Move.TheVariants.{Meet}
 use Rattle.cf_index.specs.Allowed.{passing_of}
 use Rattle.cf_index.proofs.Rows.{meet-stages, word-is}

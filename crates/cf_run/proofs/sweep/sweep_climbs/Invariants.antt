@@ -1,20 +1,21 @@
-use Rattle.std.proofs.Common.{◌-◌, Some}
+use Rattle.std.proofs.Common.{ℕ, ◌-◌, Some}
 use Rattle.cf_bind.specs.declared.moves.Move.TheVariants.{Climb}
 use Rattle.cf_index.specs.Left.{AreLeft}
-use Rattle.cf_index.specs.PickedFrom.{from_climb}
+use Rattle.cf_index.specs.PickedFrom.{from_fall, left_then}
 use Rattle.cf_run.specs.Policies.{most_moves}
 use Rattle.cf_run.specs.Sweeps.{IsSweeping, PicksFrom, SweepsTo, rule_at, silent}
 use Rattle.cf_run.proofs.sweep.sweep_climbs.Given as goal
 
--- turns of the rule lead here, its next pick is looked for from here, and the word has the stages from which a Climb is left
+-- turns of the rule lead here, its next pick is the first Climb that is left, or the first move of the kinds after Climb, and the word has the
+-- stages above some stage at which a Climb is allowed
 abbrev pub invariant-loop-stage : goal.invariant-loop-stage
 invariant-loop-stage l =
     record {
-      swept : SweepsTo l.limit silent (rule_at l.initial.core (Some l.fn.from.last) l.pace l.initial.tally)
-          (rule_at l.core (Some l.place.last) l.pace l.tally);
-      ready : IsSweeping l.limit (rule_at l.core (Some l.place.last) l.pace l.tally);
-      picked : PicksFrom l.pace l.core (Some l.place.last) l.place.rank from_climb;
-      stages : AreLeft l.core.plan l.core.state l.place.rank Climb l.left;
+      swept : SweepsTo l.limit silent (rule_at l.initial.core (Some l.fn.last) l.pace l.initial.tally) (rule_at l.core (Some l.last) l.pace l.tally);
+      ready : IsSweeping l.limit (rule_at l.core (Some l.last) l.pace l.tally);
+      picked : PicksFrom l.pace l.core (Some l.last) (left_then Climb l.left from_fall);
+      above : ℕ;
+      stages : AreLeft l.core.plan l.core.state above Climb l.left;
     }
 
 abbrev pub decreases-loop-stage : goal.decreases-loop-stage
