@@ -36,3 +36,4 @@ pub mod FallsInTurn
 pub mod LeftFalls
 pub mod LeftClimbs
 pub mod LowestNext
+pub mod AfterExit

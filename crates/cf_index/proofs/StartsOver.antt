@@ -18,6 +18,9 @@ use Rattle.cf_semantics.specs.moves.Bars.{bar, first, issue_bar}
 use Rattle.cf_semantics.specs.moves.Candidates.{candidates, other_moves}
 use Rattle.cf_semantics.specs.state.Options.{on, is_some}
 use Rattle.cf_semantics.specs.state.State.{State, cell_at}
+use Rattle.cf_semantics.specs.moves.Moves.{moved}
+use Rattle.theory_refinement.proofs.moves.Issue.{issue_ready, next_issue}
+use Rattle.theory_refinement.proofs.moves.Rows.{bar_row}
 use Rattle.cf_stages.specs.Changes.{passenger_at}
 use Rattle.cf_index.specs.declared.rank.Rank.{Rank}
 use Rattle.cf_index.specs.Allowed.{all_passing, allowed_issues, allowed_others, is_allowed, is_running, kept_issues, unheld_issues, withheld}
@@ -224,3 +227,20 @@ pub issue_none : (rule : GuessRule) (held : Bool) (plan : Plan) (s : State) (las
     IsPickedFrom rule held plan s (Some last) (from_emit plan s)
 issue_none rule held plan s last o few free first is some over =
     restarted rule held plan s last few (none_offered rule plan s held o free first is) some over
+
+-- After an Issue --
+
+-- the instruction that was issued is in the lowest stage
+taken_by : (plan : Plan) (s : State) (g : Guess) → bar plan s (Issue g) ≡ None → not (is_some (passenger_at (moved plan s (Issue g)).cells 1)) ≡ false
+taken_by plan s g free =
+    let r = issue_ready plan s g (bar_row plan s (Issue g) free) in
+    rw (next_issue plan s g r.here r.others r.pc _ r.cells r.runs refl) refl
+
+-- so no other is offered, and the first of all other moves is picked
+pub issued_on : (rule : GuessRule) (held : Bool) (plan : Plan) (s : State) (last : Move) → plan.stages ≤ 32 → kind_place last ≡ 0 → bar plan s last ≡ None →
+    IsPickedFrom rule held plan (moved plan s last) (Some last) (from_emit plan (moved plan s last))
+issued_on rule held plan s (Issue g) few is free =
+    let new = moved plan s (Issue g) in
+    started rule held plan new (Issue g) (rank_of (Issue g)) few refl (none_unheld rule plan new held (taken_barred plan new (taken_by plan s g free)))
+    (λ e. absurd (omega (arith, e))) (λ some. absurd (some refl))
+issued_on rule held plan s last few is free = absurd (omega (arith, is))

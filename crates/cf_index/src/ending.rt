@@ -1,15 +1,19 @@
 //! Two kinds of moves that a round looks for apart: Slide, of which it makes at most one, and Serve, of which it makes none.
 
-ghost use Rattle.std.specs.Prelude.{◌≡◌, [], Bool, IfSome, None, Some, false, slice_get};
+ghost use Rattle.std.specs.Prelude.{◌≡◌, Bool, IfSome, None, Some, false, slice_get, true};
 ghost use Rattle.run_options.specs.declared.guess_rule.GuessRule.{GuessRule};
+ghost use Rattle.cf_bind.specs.declared.moves.Move.TheVariants as mv;
+ghost use Rattle.cf_index.specs.Allowed.{is_allowed};
 ghost use Rattle.cf_index.specs.Order.{kind_place, slide_place};
-ghost use Rattle.cf_index.specs.PickedFrom.{IsPickedFrom, from_access, from_serve, outward_on};
+ghost use Rattle.cf_index.specs.PickedFrom.{IsPickedFrom, from_access, outward_on};
+ghost use Rattle.cf_index.specs.Words.{goes_on};
 
 use crate::after::passed_slides;
 use crate::bits::count;
 use crate::candidates::Candidates;
 use crate::fill::slides;
 use crate::outward::first_slide;
+use crate::pipe_ends::serves;
 use cf_bind::Move;
 use cf_core::Core;
 
@@ -40,12 +44,13 @@ impl Candidates {
         }
     }
 
-    /// Whether Serve is allowed. If it is not, no move comes after Exit.
+    /// Whether Serve is allowed.
     #[inline(always)]
-    #[tactic(auto, using(crate::proofs::PickedFrom::serve_off))]
     pub fn may_serve(core: &Core) -> bool
-        ensures { result ≡ false → from_serve core.now.plan core.now.state ≡ [] }
+        requires { goes_on core.now.state ≡ true }
+        ensures { result ≡ is_allowed core.now.plan core.now.state mv.Serve }
     {
-        core.may_serve()
+        let masks = core.open_masks();
+        serves(core, &masks)
     }
 }

@@ -56,6 +56,18 @@ pub(crate) fn exits(core: &Core, masks: &Masks) -> bool
     has_bit(resting(masks), 1)
 }
 
+/// Whether Serve is allowed.
+// The instruction of the highest stage is looked at only where there is one.
+#[inline(always)]
+pub(crate) fn serves(core: &Core, masks: &Masks) -> bool
+    requires on { goes_on core.now.state ≡ true }
+    requires masks { masks.now ≡ masks_of core.now.plan core.now.state }
+    ensures { result ≡ is_allowed core.now.plan core.now.state mv.Serve }
+{
+    know_stages(core);
+    has_top(core, masks.passengers) && core.may_serve()
+}
+
 /// The bits of Leave, Exit and Serve.
 #[inline(always)]
 pub(crate) fn end_bits(core: &Core, masks: &Masks) -> u64

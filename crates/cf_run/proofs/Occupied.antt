@@ -30,6 +30,7 @@ use Rattle.theory_refinement.proofs.moves.Climb.{climb_ready, next_climb}
 use Rattle.theory_refinement.proofs.moves.Emit.{emit_ready, next_emit}
 use Rattle.theory_refinement.proofs.moves.Execute.{execute_ready, next_execute}
 use Rattle.theory_refinement.proofs.moves.Fall.{fall_ready, next_fall}
+use Rattle.theory_refinement.proofs.moves.Issue.{issue_ready, next_issue}
 use Rattle.theory_refinement.proofs.moves.Launch.{launch_ready, launched_out, launched_trap, next_launch}
 use Rattle.theory_refinement.proofs.moves.Meet.{meet_ready, next_meet}
 use Rattle.theory_refinement.proofs.moves.Recovering.{next_recover, recover_ready}
@@ -93,6 +94,12 @@ last_there (ops ∷ sidings) zero op e = omega arith
 last_there (ops ∷ sidings) (suc k) op e = let rest = last_there sidings k op e in omega (arith, rest)
 
 -- After each of these moves --
+
+pub issue_there : (plan : Plan) (s : State) (m : Move) → kind_place m ≡ 0 → bar plan s m ≡ None → is_drained (moved plan s m) ≡ false
+issue_there plan s (Issue g) is free =
+    let r = issue_ready plan s g (bar_row plan s (Issue g) free) in
+    rw (next_issue plan s g r.here r.others r.pc _ r.cells r.runs refl) (some_in_cells _ refl)
+issue_there plan s m is free = absurd (omega (arith, is))
 
 emit_there : (plan : Plan) (s : State) → bar plan s Emit ≡ None → is_drained (moved plan s Emit) ≡ false
 emit_there plan s free =

@@ -35,6 +35,7 @@ pub(crate) fn make_picked(
     requires before { kind_place mv ≤ 12 }
     requires ready { IsSweeping limit (rule_at core.old (Some last) pace.old tally.old) }
     requires picked { PicksNext pace.old core.old (Some last) mv }
+    ensures made { core.new ≡ after_move core.old mv }
     ensures swept { SweepsTo limit silent (rule_at core.old (Some last) pace.old tally.old) (rule_at core.new (Some mv) pace.new tally.new) }
     ensures ready { kind_place mv ≢ leave_place → IsSweeping limit (rule_at core.new (Some mv) pace.new tally.new) }
     ensures counted { tally.new.moves ≡ tally.old.moves + 1 }
@@ -163,8 +164,8 @@ fn sweep_climbs(core: &mut Core, last: Move, pace: &Pace, limit: u64, tally: &mu
     last
 }
 
-/// Makes the Falls from these stages, of which there is one, and those from the stages above that are allowed after them. Each is the
-/// rule's next pick, and none can bar a Launch.
+/// Makes the Falls from these stages, of which there is one, and those from the stages above that are allowed after them. Each
+/// is the rule's next pick, and none can bar a Launch.
 #[inline(always)]
 fn make_falls(
     core: &mut Core,
@@ -205,6 +206,24 @@ fn sweep_falls_singly(
     sweep_kind::<FallKind>(core, last, pace, limit, tally)
 }
 
+/// The same.
+// What the call takes and answers is copied here, so that it stays in registers where this is not called.
+#[inline(always)]
+fn sweep_falls_apart(
+    core: &mut Core,
+    last: Move,
+    pace: &Pace,
+    limit: u64,
+    tally: &mut Tally,
+) -> Move
+    requires from { SweepsFrom limit from_fall (rule_at core.old (Some last) pace.now tally.old) }
+    ensures on { SweepsOn limit from_meet (rule_at core.old (Some last) pace.now tally.old)
+        (rule_at core.new (Some result) pace.now tally.new) }
+{
+    let fallen = sweep_falls_singly(core, last, pace, limit, tally);
+    fallen
+}
+
 /// Makes the Falls that the rule picks one after another, and answers its last pick.
 #[inline(always)]
 fn sweep_falls(core: &mut Core, last: Move, pace: &Pace, limit: u64, tally: &mut Tally) -> Move
@@ -218,7 +237,7 @@ fn sweep_falls(core: &mut Core, last: Move, pace: &Pace, limit: u64, tally: &mut
     } else if falls_bar_no_launch(core) {
         make_falls(core, last, left, pace, limit, tally)
     } else {
-        sweep_falls_singly(core, last, pace, limit, tally)
+        sweep_falls_apart(core, last, pace, limit, tally)
     }
 }
 
@@ -227,35 +246,35 @@ fn sweep_falls(core: &mut Core, last: Move, pace: &Pace, limit: u64, tally: &mut
 fn make_only<T: OnceKind>(
     core: &mut Core,
     last: Move,
-    pace: &mut Pace,
+    pace: &Pace,
     limit: u64,
     tally: &mut Tally,
 ) -> Move
-    requires other { kind_place T.only_move ≢ leave_place }
-    requires ready { IsSweeping limit (rule_at core.old (Some last) pace.old tally.old) }
-    requires picked { PicksNext pace.old core.old (Some last) T.only_move }
-    ensures on { SweepsOn limit T.beyond (rule_at core.old (Some last) pace.old tally.old)
-        (rule_at core.new (Some result) pace.new tally.new) }
+    requires within { kind_place T.only_move ≤ 10 }
+    requires ready { IsSweeping limit (rule_at core.old (Some last) pace.now tally.old) }
+    requires picked { PicksNext pace.now core.old (Some last) T.only_move }
+    ensures on { SweepsOn limit T.beyond (rule_at core.old (Some last) pace.now tally.old)
+        (rule_at core.new (Some result) pace.now tally.new) }
 {
     let mv = T::only();
-    make_picked(core, last, mv, pace, limit, tally);
+    make_within(core, last, mv, pace, limit, tally);
     mv
 }
 
-/// Makes the move of a kind that has only one, but not a Leave, after which the run may be over, if the rule picks it; and answers its
+/// Makes the move of a kind that has only one, and by which nothing leaves the processor, if the rule picks it; and answers its
 /// last pick.
 #[inline(always)]
 pub(crate) fn sweep_once<T: OnceKind>(
     core: &mut Core,
     last: Move,
-    pace: &mut Pace,
+    pace: &Pace,
     limit: u64,
     tally: &mut Tally,
 ) -> Move
-    requires other { kind_place T.only_move ≢ leave_place }
-    requires from { SweepsFrom limit T.from (rule_at core.old (Some last) pace.old tally.old) }
-    ensures on { SweepsOn limit T.beyond (rule_at core.old (Some last) pace.old tally.old)
-        (rule_at core.new (Some result) pace.new tally.new) }
+    requires within { kind_place T.only_move ≤ 10 }
+    requires from { SweepsFrom limit T.from (rule_at core.old (Some last) pace.now tally.old) }
+    ensures on { SweepsOn limit T.beyond (rule_at core.old (Some last) pace.now tally.old)
+        (rule_at core.new (Some result) pace.now tally.new) }
 {
     if T::is_left(core) {
         make_only::<T>(core, last, pace, limit, tally)
@@ -264,20 +283,20 @@ pub(crate) fn sweep_once<T: OnceKind>(
     }
 }
 
-/// Makes the moves of Emit and of each kind over the stages that the rule picks one after another, if it picks the first of these next;
-/// and answers its last pick.
+/// Makes the moves of Emit and of each kind over the stages that the rule picks one after another, if it picks the first that is
+/// allowed next; and answers its last pick.
 // It is a part of the loop over rounds, of which the caller makes a call.
 #[inline(always)]
 pub(crate) fn sweep_stages(
     core: &mut Core,
     last: Move,
-    pace: &mut Pace,
+    pace: &Pace,
     limit: u64,
     tally: &mut Tally,
 ) -> Move
-    requires from { SweepsFrom limit from_emit (rule_at core.old (Some last) pace.old tally.old) }
-    ensures on { SweepsOn limit outward_on (rule_at core.old (Some last) pace.old tally.old)
-        (rule_at core.new (Some result) pace.new tally.new) }
+    requires from { SweepsFrom limit from_emit (rule_at core.old (Some last) pace.now tally.old) }
+    ensures on { SweepsOn limit outward_on (rule_at core.old (Some last) pace.now tally.old)
+        (rule_at core.new (Some result) pace.now tally.new) }
 {
     let emitted = sweep_once::<EmitKind>(core, last, pace, limit, tally);
     let climbed = sweep_climbs(core, emitted, pace, limit, tally);

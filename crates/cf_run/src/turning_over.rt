@@ -3,15 +3,18 @@
 #![tactic(auto, using(crate::proofs::Turning::goes_on_from, crate::proofs::Turning::goes_on_so, crate::proofs::Turning::no_turns, crate::proofs::Turning::sweeps_on))]
 
 ghost use Rattle.std.specs.Prelude.{◌≡◌, ◌<◌, ◌≤◌, ◌+◌, Some, true};
+ghost use Rattle.cf_bind.specs.declared.moves.Move.TheVariants as mv;
+ghost use Rattle.cf_index.specs.Allowed.{is_allowed};
 ghost use Rattle.cf_index.specs.Order.{kind_place};
-ghost use Rattle.cf_index.specs.PickedFrom.{from_access, from_emit, from_end, from_exit, from_leave, outward_on};
-ghost use Rattle.cf_run.specs.Sweeps.{IsSweeping, PicksFrom, PicksNext, SweepsFrom, SweepsTo, rule_at, silent};
+ghost use Rattle.cf_index.specs.PickedFrom.{from_access, from_emit, from_end, from_exit, from_leave, from_serve, outward_on};
+ghost use Rattle.cf_run.specs.Sweeps.{IsSweeping, PicksFrom, PicksNext, SweepsFrom, SweepsOn, SweepsTo, rule_at, silent};
 
+use crate::counting::count;
 use crate::finished::over;
 use crate::sweep::{make_picked, make_within, sweep_kind, sweep_once, sweep_stages};
 use cf_bind::Move;
 use cf_core::Core;
-use cf_index::{AccessKind, Candidates, ExitKind, LeaveKind, OnceKind, Rank, RecoverKind};
+use cf_index::{AccessKind, Candidates, ExitKind, LeaveKind, OnceKind, RecoverKind};
 use cf_report::Tally;
 use cf_sched::Pace;
 
@@ -46,29 +49,21 @@ fn take_slide(core: &mut Core, last: Move, pace: &Pace, limit: u64, tally: &mut 
     }
 }
 
-/// Makes an Issue, and answers whether the next round goes on from there.
+/// Makes an Issue, which the rule picks.
+// The instruction is in the lowest stage then. So the processor is not drained, no Issue is offered, and the next round begins.
 #[inline(always)]
-fn take_issue(
-    core: &mut Core,
-    last: Move,
-    mv: Move,
-    pace: &mut Pace,
-    limit: u64,
-    tally: &mut Tally,
-) -> PartEnd
+fn take_issue(core: &mut Core, last: Move, mv: Move, pace: &mut Pace, limit: u64, tally: &mut Tally)
     requires issue { kind_place mv ≡ 0 }
     requires ready { IsSweeping limit (rule_at core.old (Some last) pace.old tally.old) }
     requires picked { PicksNext pace.old core.old (Some last) mv }
-    ensures swept { SweepsTo limit silent (rule_at core.old (Some last) pace.old tally.old)
-        (rule_at core.new (Some result.last) pace.new tally.new) }
-    ensures from { result.goes_on ≡ true → SweepsFrom limit from_emit (rule_at core.new (Some result.last) pace.new tally.new) }
+    ensures on { SweepsOn limit from_emit (rule_at core.old (Some last) pace.old tally.old)
+        (rule_at core.new (Some mv) pace.new tally.new) }
     ensures counted { tally.new.moves ≡ tally.old.moves + 1 }
 {
-    make_picked(core, last, mv, pace, limit, tally);
-    PartEnd {
-        last: mv,
-        goes_on: Candidates::starts_over(core, Rank::of(mv), pace.held()),
-    }
+    let (_last, _layout) = (last, core.layout());
+    let event = core.make_inside(mv);
+    count(tally, mv, &event);
+    pace.saw(mv, &event, false);
 }
 
 /// Makes the Issue that the rule picks if no other move comes after its last pick, if it picks one, and answers whether the
@@ -96,7 +91,13 @@ fn start_over(
         };
     }
     match Candidates::next_issue(core, pace.rule(), pace.held()) {
-        Some(mv) => take_issue(core, last, mv, pace, limit, tally),
+        Some(mv) => {
+            take_issue(core, last, mv, pace, limit, tally);
+            PartEnd {
+                last: mv,
+                goes_on: true,
+            }
+        }
         None => PartEnd {
             last,
             goes_on: true,
@@ -106,17 +107,11 @@ fn start_over(
 
 /// Makes the moves of operations that the rule picks one after another: a Slide, Access and all Recovers.
 #[inline(always)]
-fn sweep_sidings(
-    core: &mut Core,
-    last: Move,
-    pace: &mut Pace,
-    limit: u64,
-    tally: &mut Tally,
-) -> PartEnd
-    requires from { SweepsFrom limit outward_on (rule_at core.old (Some last) pace.old tally.old) }
-    ensures swept { SweepsTo limit silent (rule_at core.old (Some last) pace.old tally.old)
-        (rule_at core.new (Some result.last) pace.new tally.new) }
-    ensures from { result.goes_on ≡ true → SweepsFrom limit from_leave (rule_at core.new (Some result.last) pace.new tally.new) }
+fn sweep_sidings(core: &mut Core, last: Move, pace: &Pace, limit: u64, tally: &mut Tally) -> PartEnd
+    requires from { SweepsFrom limit outward_on (rule_at core.old (Some last) pace.now tally.old) }
+    ensures swept { SweepsTo limit silent (rule_at core.old (Some last) pace.now tally.old)
+        (rule_at core.new (Some result.last) pace.now tally.new) }
+    ensures from { result.goes_on ≡ true → SweepsFrom limit from_leave (rule_at core.new (Some result.last) pace.now tally.new) }
 {
     let slid = take_slide(core, last, pace, limit, tally);
     if !slid.goes_on {
@@ -132,17 +127,11 @@ fn sweep_sidings(
 
 /// The same; nothing is looked for if no siding has an operation.
 #[inline(always)]
-fn pass_sidings(
-    core: &mut Core,
-    last: Move,
-    pace: &mut Pace,
-    limit: u64,
-    tally: &mut Tally,
-) -> PartEnd
-    requires from { SweepsFrom limit outward_on (rule_at core.old (Some last) pace.old tally.old) }
-    ensures swept { SweepsTo limit silent (rule_at core.old (Some last) pace.old tally.old)
-        (rule_at core.new (Some result.last) pace.new tally.new) }
-    ensures from { result.goes_on ≡ true → SweepsFrom limit from_leave (rule_at core.new (Some result.last) pace.new tally.new) }
+fn pass_sidings(core: &mut Core, last: Move, pace: &Pace, limit: u64, tally: &mut Tally) -> PartEnd
+    requires from { SweepsFrom limit outward_on (rule_at core.old (Some last) pace.now tally.old) }
+    ensures swept { SweepsTo limit silent (rule_at core.old (Some last) pace.now tally.old)
+        (rule_at core.new (Some result.last) pace.now tally.new) }
+    ensures from { result.goes_on ≡ true → SweepsFrom limit from_leave (rule_at core.new (Some result.last) pace.now tally.new) }
 {
     if Candidates::sidings_empty(core) {
         return PartEnd {
@@ -181,7 +170,24 @@ fn take_leave(
     }
 }
 
+/// Makes Exit, if the rule picks it, and answers its last pick.
+#[inline(always)]
+fn sweep_exit(core: &mut Core, last: Move, pace: &mut Pace, limit: u64, tally: &mut Tally) -> Move
+    requires from { SweepsFrom limit from_exit (rule_at core.old (Some last) pace.old tally.old) }
+    ensures on { SweepsOn limit from_serve (rule_at core.old (Some last) pace.old tally.old)
+        (rule_at core.new (Some result) pace.new tally.new) }
+    ensures serve { is_allowed core.new.plan core.new.state mv.Serve ≡ is_allowed core.old.plan core.old.state mv.Serve }
+{
+    if !ExitKind::is_left(core) {
+        return last;
+    }
+    let mv = ExitKind::only();
+    make_picked(core, last, mv, pace, limit, tally);
+    mv
+}
+
 /// Makes Exit, if the rule picks it. The next pick is looked for among all moves if it is Serve.
+// Whether Serve is allowed is asked before, where it is known already whether the highest stage has an instruction.
 #[inline(always)]
 fn take_exit(core: &mut Core, last: Move, pace: &mut Pace, limit: u64, tally: &mut Tally) -> PartEnd
     requires from { SweepsFrom limit from_exit (rule_at core.old (Some last) pace.old tally.old) }
@@ -189,10 +195,11 @@ fn take_exit(core: &mut Core, last: Move, pace: &mut Pace, limit: u64, tally: &m
         (rule_at core.new (Some result.last) pace.new tally.new) }
     ensures from { result.goes_on ≡ true → SweepsFrom limit from_end (rule_at core.new (Some result.last) pace.new tally.new) }
 {
-    let exited = sweep_once::<ExitKind>(core, last, pace, limit, tally);
+    let serves = Candidates::may_serve(core);
+    let exited = sweep_exit(core, last, pace, limit, tally);
     PartEnd {
         last: exited,
-        goes_on: !Candidates::may_serve(core),
+        goes_on: !serves,
     }
 }
 
