@@ -36,4 +36,4 @@ pub mod FallsInTurn
 pub mod LeftFalls
 pub mod LeftClimbs
 pub mod LowestNext
-pub mod AfterExit
+pub mod AfterLeaving

@@ -1,7 +1,7 @@
 -- A sweep, kind by kind.
-use Rattle.std.proofs.Common.{◌≡◌, ◌≢◌, ◌∙◌, sym, refl, ap, subst, ℕ, suc, ◌+◌, ◌≤◌, ◌<◌, List, [], ◌∷◌, ◌++◌, length, map, Bool, true, false, cond, Option, Some, None, arith}
+use Rattle.std.proofs.Common.{◌≡◌, ◌≢◌, ◌∙◌, sym, refl, ap, subst, ℕ, suc, ◌+◌, ◌≤◌, ◌<◌, List, [], ◌∷◌, ◌++◌, length, map, Bool, true, false, cond, Option, Some, None, inl, inr, arith}
 use Rattle.std.specs.List.{prefix_len}
-use Rattle.std.specs.Prelude.{◌&&◌, filter, find, not, slice_get}
+use Rattle.std.specs.Prelude.{◌&&◌, ◌⊎◌, filter, find, not, slice_get}
 use Rattle.std.proofs.Math.Bool.{and-true}
 use Rattle.std.proofs.lemmas.Bool.Decides.{nat_tests}
 use Rattle.std.proofs.lemmas.List.{append_assoc, length-map}
@@ -23,7 +23,9 @@ use Rattle.cf_index.specs.Listed.{at_word, slide_at, slides_of}
 use Rattle.cf_index.specs.Order.{kind_place, passed_moves, place, slide_place, stands_after}
 use Rattle.cf_index.specs.Places.{set_places}
 use Rattle.cf_index.specs.Ranks.{is_past, rank_of}
-use Rattle.cf_index.specs.PickedFrom.{IsLast, IsPickedFrom, from_access, from_climb, from_emit, from_exit, from_fall, from_leave, from_meet, from_execute, from_recover, from_send, from_serve, from_launch, left_then, outward_on}
+use Rattle.cf_index.specs.declared.pipe_ends.AtTop.{AtTop}
+use Rattle.cf_index.specs.declared.pipe_ends.AtTop.TheVariants as at
+use Rattle.cf_index.specs.PickedFrom.{at_top, top_by, IsLast, IsPickedFrom, from_access, from_climb, from_emit, from_exit, from_fall, from_leave, from_meet, from_execute, from_recover, from_send, from_serve, from_launch, left_then, outward_on}
 use Rattle.cf_index.proofs.AllowedWords.{climb-on}
 use Rattle.cf_index.proofs.Filled.{stages_chosen}
 use Rattle.cf_index.proofs.Firsts.{found_soon}
@@ -365,15 +367,13 @@ access_off plan s barred = rw barred refl
 
 pub ruleset accessing = (access_here, access_off)
 
-pub leave_here : (plan : Plan) (s : State) → is_allowed plan s Leave ≡ true → slice_get (from_leave plan s) 0 ≡ Some Leave
+leave_here : (plan : Plan) (s : State) → is_allowed plan s Leave ≡ true → slice_get (from_leave plan s) 0 ≡ Some Leave
 unfolding from_leave
 leave_here plan s free = rw free refl
 
-pub leave_off : (plan : Plan) (s : State) → is_allowed plan s Leave ≡ false → from_exit plan s ≡ from_leave plan s
+leave_off : (plan : Plan) (s : State) → is_allowed plan s Leave ≡ false → from_exit plan s ≡ from_leave plan s
 unfolding from_leave from_exit
 leave_off plan s barred = rw barred refl
-
-pub ruleset leaving = (leave_here, leave_off)
 
 pub exit_here : (plan : Plan) (s : State) → is_allowed plan s Exit ≡ true → slice_get (from_exit plan s) 0 ≡ Some Exit
 unfolding from_exit
@@ -384,6 +384,31 @@ unfolding from_exit from_serve
 exit_off plan s barred = rw barred refl
 
 pub ruleset exiting = (exit_here, exit_off)
+
+-- what the instruction of the highest stage can do tells which is the first
+leaves_by : (leaves serves : Bool) → top_by leaves serves ≡ at.Leaves → leaves ≡ true
+leaves_by true serves e = refl
+leaves_by false true e = absurd (cc)
+leaves_by false false e = absurd (cc)
+
+serves_by : (leaves serves : Bool) → top_by leaves serves ≡ at.Serves → leaves ≡ false
+serves_by true serves e = absurd (cc)
+serves_by false serves e = refl
+
+stays_by : (leaves serves : Bool) → top_by leaves serves ≡ at.Stays → (leaves ≡ false) × (serves ≡ false)
+stays_by true serves e = absurd (cc)
+stays_by false true e = absurd (cc)
+stays_by false false e = (refl, refl)
+
+pub top_leaves : (plan : Plan) (s : State) → at_top plan s ≡ at.Leaves → slice_get (from_leave plan s) 0 ≡ Some Leave
+top_leaves plan s e = leave_here plan s (leaves_by (is_allowed plan s Leave) (is_allowed plan s Serve) e)
+
+pub top_rests : (plan : Plan) (s : State) (top : AtTop) → top ≡ at_top plan s → (top ≡ at.Serves) ⊎ (top ≡ at.Stays) →
+    (from_exit plan s ≡ from_leave plan s) × (top ≢ at.Serves → is_allowed plan s Serve ≡ false)
+top_rests plan s top is (inl e) =
+    (leave_off plan s (serves_by (is_allowed plan s Leave) (is_allowed plan s Serve) (sym is ∙ e)), λ other. absurd (other e))
+top_rests plan s top is (inr e) =
+    let off = stays_by (is_allowed plan s Leave) (is_allowed plan s Serve) (sym is ∙ e) in (leave_off plan s off.0, λ other. off.1)
 
 -- if Serve is barred too, none is left
 pub serve_off : (plan : Plan) (s : State) → is_allowed plan s Serve ≡ false → from_serve plan s ≡ []

@@ -1,12 +1,14 @@
 -- A sweep lists what is allowed from one kind of move on. Its first move is the next pick of a rule that goes round in
 -- the order of all moves; if it has none, no move but an Issue comes after the last pick.
-use Rattle.std.specs.Prelude.{◌≡◌, ℕ, List, [], ◌∷◌, ◌++◌, Bool, Option, Some, None, filter, find, slice_get}
+use Rattle.std.specs.Prelude.{◌≡◌, ℕ, List, [], ◌∷◌, ◌++◌, Bool, true, false, Option, Some, None, filter, find, slice_get}
 use Rattle.run_options.specs.declared.guess_rule.GuessRule.{GuessRule}
 use Rattle.cf_layout.specs.Layout.{Plan}
 use Rattle.cf_bind.specs.declared.moves.Move.{Move}
 use Rattle.cf_bind.specs.declared.moves.Move.TheVariants.{Emit, Exit, Leave, Recover, Serve}
 use Rattle.cf_semantics.specs.moves.Candidates.{at_stages, slides_from}
 use Rattle.cf_semantics.specs.state.State.{State}
+use Rattle.cf_index.specs.declared.pipe_ends.AtTop.{AtTop}
+use Rattle.cf_index.specs.declared.pipe_ends.AtTop.TheVariants as at
 use Rattle.cf_index.specs.Allowed.{all_leaving, allowed_others, climb_on, execute_on, fall_on, is_allowed, launch_on, meet_on, send_on, withheld}
 use Rattle.cf_index.specs.GuessRules.{guided}
 use Rattle.cf_index.specs.Listed.{at_word}
@@ -54,6 +56,15 @@ from_exit plan s = filter (is_allowed plan s) (Exit ∷ Serve ∷ [])
 
 unfoldable pub from_serve : Plan → State → List Move
 from_serve plan s = filter (is_allowed plan s) (Serve ∷ [])
+
+-- what the instruction of the highest stage can do: leave, or else be served, or neither
+abbrev pub top_by : (leaves serves : Bool) → AtTop
+top_by true serves = at.Leaves
+top_by false true = at.Serves
+top_by false false = at.Stays
+
+abbrev pub at_top : Plan → State → AtTop
+at_top plan s = top_by (is_allowed plan s Leave) (is_allowed plan s Serve)
 
 -- after Serve there is no kind left
 abbrev pub from_end : Plan → State → List Move

@@ -1,11 +1,11 @@
-//! Two kinds of moves that a round looks for apart: Slide, of which it makes at most one, and Serve, of which it makes none.
+//! The kinds of moves that a round looks for apart: Slide, of which it makes at most one, Leave and Exit, and Serve, of which it
+//! makes none.
 
 ghost use Rattle.std.specs.Prelude.{◌≡◌, Bool, IfSome, None, Some, false, slice_get, true};
 ghost use Rattle.run_options.specs.declared.guess_rule.GuessRule.{GuessRule};
 ghost use Rattle.cf_bind.specs.declared.moves.Move.TheVariants as mv;
-ghost use Rattle.cf_index.specs.Allowed.{is_allowed};
 ghost use Rattle.cf_index.specs.Order.{kind_place, slide_place};
-ghost use Rattle.cf_index.specs.PickedFrom.{IsPickedFrom, from_access, outward_on};
+ghost use Rattle.cf_index.specs.PickedFrom.{IsPickedFrom, at_top, from_access, from_exit, from_serve, outward_on};
 ghost use Rattle.cf_index.specs.Words.{goes_on};
 
 use crate::after::passed_slides;
@@ -13,7 +13,7 @@ use crate::bits::count;
 use crate::candidates::Candidates;
 use crate::fill::slides;
 use crate::outward::first_slide;
-use crate::pipe_ends::serves;
+use crate::pipe_ends::{AtTop, exits, top};
 use cf_bind::Move;
 use cf_core::Core;
 
@@ -44,13 +44,25 @@ impl Candidates {
         }
     }
 
-    /// Whether Serve is allowed.
+    /// What the instruction of the highest stage can do.
     #[inline(always)]
-    pub fn may_serve(core: &Core) -> bool
+    pub fn at_top(core: &Core) -> AtTop
         requires { goes_on core.now.state ≡ true }
-        ensures { result ≡ is_allowed core.now.plan core.now.state mv.Serve }
+        ensures { result ≡ at_top core.now.plan core.now.state }
     {
         let masks = core.open_masks();
-        serves(core, &masks)
+        top(core, &masks)
+    }
+
+    /// Whether Exit is allowed.
+    #[inline(always)]
+    #[tactic(auto, using(crate::proofs::PickedFrom::exiting))]
+    pub fn may_exit(core: &Core) -> bool
+        requires { goes_on core.now.state ≡ true }
+        ensures here { result ≡ true → slice_get (from_exit core.now.plan core.now.state) 0 ≡ Some mv.Exit }
+        ensures gone { result ≡ false → from_serve core.now.plan core.now.state ≡ from_exit core.now.plan core.now.state }
+    {
+        let masks = core.open_masks();
+        exits(core, &masks)
     }
 }

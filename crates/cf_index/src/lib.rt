@@ -33,8 +33,9 @@ pub use bits::lowest_stage;
 pub use candidates::Candidates;
 pub use in_turn::{falls_bar_no_launch, results_at_rest};
 pub use known::is_known_allowed;
-pub use once_kinds::{AccessKind, EmitKind, ExitKind, LeaveKind, OnceKind};
+pub use once_kinds::{AccessKind, EmitKind, OnceKind};
 pub use packed::PackedCandidates;
+pub use pipe_ends::AtTop;
 pub use rank::Rank;
 pub use sharing::shares;
 pub use stage_kinds::{

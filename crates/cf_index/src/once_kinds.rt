@@ -1,4 +1,4 @@
-//! The kinds of moves that have one move alone, since it has no stage: Emit, Access, Leave and Exit.
+//! The kinds of moves that have one move alone, since it has no stage, and by which nothing leaves the processor: Emit and Access.
 
 ghost use Rattle.std.specs.Prelude.{◌≡◌, ◌≤◌, Bool, List, Some, false, slice_get, true};
 ghost use Rattle.run_options.specs.declared.guess_rule.GuessRule.{GuessRule};
@@ -8,13 +8,13 @@ ghost use Rattle.cf_layout.specs.Layout.{Plan};
 ghost use Rattle.cf_semantics.specs.state.State.{State};
 ghost use Rattle.cf_index.specs.Order.{kind_place};
 ghost use Rattle.cf_index.specs.Words.{goes_on};
-ghost use Rattle.cf_index.specs.PickedFrom.{IsPickedFrom, from_access, from_climb, from_emit, from_exit, from_leave, from_recover, from_serve};
+ghost use Rattle.cf_index.specs.PickedFrom.{IsPickedFrom, from_access, from_climb, from_emit, from_recover};
 
-use crate::pipe_ends::{emits, exits, leaves};
+use crate::pipe_ends::emits;
 use cf_bind::Move;
 use cf_core::Core;
 
-/// A kind that has one move alone: Emit, Access, Leave or Exit.
+/// A kind that has one move alone: Emit or Access.
 pub trait OnceKind {
     /// The move of this kind.
     ghost only_move: { Step };
@@ -29,7 +29,7 @@ pub trait OnceKind {
     fn only() -> Move
         ensures value { result ≡ only_move }
         ensures after { 1 ≤ kind_place result }
-        ensures before { kind_place result ≤ 12 }
+        ensures before { kind_place result ≤ 10 }
         ensures picked { (rule : GuessRule) (held : Bool) (plan : Plan) (s : State) → plan.stages ≤ 32 → IsPickedFrom rule held plan s (Some result) (beyond plan s) };
 
     /// Whether the move is allowed.
@@ -44,12 +44,6 @@ pub struct EmitKind;
 
 /// Access.
 pub struct AccessKind;
-
-/// Leave.
-pub struct LeaveKind;
-
-/// Exit.
-pub struct ExitKind;
 
 impl OnceKind for EmitKind {
     ghost only_move = { mv.Emit };
@@ -89,47 +83,5 @@ impl OnceKind for AccessKind {
     #[tactic(auto, using(crate::proofs::PickedFrom::accessing))]
     fn is_left(core: &Core) -> bool {
         core.may_access()
-    }
-}
-
-impl OnceKind for LeaveKind {
-    ghost only_move = { mv.Leave };
-
-    ghost from = { from_leave };
-
-    ghost beyond = { from_exit };
-
-    #[inline(always)]
-    #[tactic(auto, using(crate::proofs::PickedFrom::left_on))]
-    fn only() -> Move {
-        Move::Leave
-    }
-
-    #[inline(always)]
-    #[tactic(auto, using(crate::proofs::PickedFrom::leaving))]
-    fn is_left(core: &Core) -> bool {
-        let masks = core.open_masks();
-        leaves(core, &masks)
-    }
-}
-
-impl OnceKind for ExitKind {
-    ghost only_move = { mv.Exit };
-
-    ghost from = { from_exit };
-
-    ghost beyond = { from_serve };
-
-    #[inline(always)]
-    #[tactic(auto, using(crate::proofs::PickedFrom::exited_on))]
-    fn only() -> Move {
-        Move::Exit
-    }
-
-    #[inline(always)]
-    #[tactic(auto, using(crate::proofs::PickedFrom::exiting))]
-    fn is_left(core: &Core) -> bool {
-        let masks = core.open_masks();
-        exits(core, &masks)
     }
 }

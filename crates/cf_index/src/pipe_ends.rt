@@ -6,6 +6,7 @@ ghost use Rattle.cf_bind.specs.declared.moves.Move.TheVariants as mv;
 ghost use Rattle.cf_core.specs.Masks.{masks_of};
 ghost use Rattle.cf_index.specs.Allowed.{is_allowed};
 ghost use Rattle.cf_index.specs.Packed.{packed_from};
+ghost use Rattle.cf_index.specs.PickedFrom.{at_top};
 ghost use Rattle.cf_index.specs.Words.{goes_on};
 
 use crate::packing::flag_then;
@@ -13,6 +14,17 @@ use crate::stages::{know_stages, stages};
 use crate::words::resting;
 use cf_core::{Core, Masks};
 use cf_stages::has_bit;
+
+/// What the instruction of the highest stage can do.
+#[derive(Clone, Copy)]
+pub enum AtTop {
+    /// It can leave.
+    Leaves,
+    /// It can be served.
+    Serves,
+    /// It can do neither, or there is none.
+    Stays,
+}
 
 /// Whether the word has the bit of the highest stage.
 #[inline(always)]
@@ -33,18 +45,6 @@ pub(crate) fn emits(core: &Core, masks: &Masks) -> bool
     core.lane_len() != 0 && !has_top(core, masks.packets)
 }
 
-/// Whether Leave is allowed.
-// What the instruction of the highest stage has done is looked at only where there is one.
-#[inline(always)]
-pub(crate) fn leaves(core: &Core, masks: &Masks) -> bool
-    requires on { goes_on core.now.state ≡ true }
-    requires masks { masks.now ≡ masks_of core.now.plan core.now.state }
-    ensures { result ≡ is_allowed core.now.plan core.now.state mv.Leave }
-{
-    know_stages(core);
-    has_top(core, masks.passengers) && core.open_leave()
-}
-
 /// Whether Exit is allowed.
 #[inline(always)]
 pub(crate) fn exits(core: &Core, masks: &Masks) -> bool
@@ -56,16 +56,24 @@ pub(crate) fn exits(core: &Core, masks: &Masks) -> bool
     has_bit(resting(masks), 1)
 }
 
-/// Whether Serve is allowed.
-// The instruction of the highest stage is looked at only where there is one.
+/// What the instruction of the highest stage can do.
+// It is looked at only where there is one.
 #[inline(always)]
-pub(crate) fn serves(core: &Core, masks: &Masks) -> bool
+pub(crate) fn top(core: &Core, masks: &Masks) -> AtTop
     requires on { goes_on core.now.state ≡ true }
     requires masks { masks.now ≡ masks_of core.now.plan core.now.state }
-    ensures { result ≡ is_allowed core.now.plan core.now.state mv.Serve }
+    ensures { result ≡ at_top core.now.plan core.now.state }
 {
     know_stages(core);
-    has_top(core, masks.passengers) && core.may_serve()
+    if !has_top(core, masks.passengers) {
+        AtTop::Stays
+    } else if core.open_leave() {
+        AtTop::Leaves
+    } else if core.may_serve() {
+        AtTop::Serves
+    } else {
+        AtTop::Stays
+    }
 }
 
 /// The bits of Leave, Exit and Serve.

@@ -250,7 +250,6 @@ fn make_only<T: OnceKind>(
     limit: u64,
     tally: &mut Tally,
 ) -> Move
-    requires within { kind_place T.only_move ≤ 10 }
     requires ready { IsSweeping limit (rule_at core.old (Some last) pace.now tally.old) }
     requires picked { PicksNext pace.now core.old (Some last) T.only_move }
     ensures on { SweepsOn limit T.beyond (rule_at core.old (Some last) pace.now tally.old)
@@ -261,8 +260,7 @@ fn make_only<T: OnceKind>(
     mv
 }
 
-/// Makes the move of a kind that has only one, and by which nothing leaves the processor, if the rule picks it; and answers its
-/// last pick.
+/// Makes the move of a kind that has only one, if the rule picks it, and answers its last pick.
 #[inline(always)]
 pub(crate) fn sweep_once<T: OnceKind>(
     core: &mut Core,
@@ -271,7 +269,6 @@ pub(crate) fn sweep_once<T: OnceKind>(
     limit: u64,
     tally: &mut Tally,
 ) -> Move
-    requires within { kind_place T.only_move ≤ 10 }
     requires from { SweepsFrom limit T.from (rule_at core.old (Some last) pace.now tally.old) }
     ensures on { SweepsOn limit T.beyond (rule_at core.old (Some last) pace.now tally.old)
         (rule_at core.new (Some result) pace.now tally.new) }

@@ -2,11 +2,12 @@
 //! whichever move comes first.
 #![tactic(auto, using(crate::proofs::Turning::goes_on_from, crate::proofs::Turning::goes_on_so, crate::proofs::Turning::no_turns, crate::proofs::Turning::sweeps_on))]
 
-ghost use Rattle.std.specs.Prelude.{◌≡◌, ◌<◌, ◌≤◌, ◌+◌, Some, true};
+ghost use Rattle.std.specs.Prelude.{◌≡◌, ◌≢◌, ◌<◌, ◌≤◌, ◌+◌, Some, false, true};
 ghost use Rattle.cf_bind.specs.declared.moves.Move.TheVariants as mv;
+ghost use Rattle.cf_index.specs.declared.pipe_ends.AtTop.TheVariants as at;
 ghost use Rattle.cf_index.specs.Allowed.{is_allowed};
 ghost use Rattle.cf_index.specs.Order.{kind_place};
-ghost use Rattle.cf_index.specs.PickedFrom.{from_access, from_emit, from_end, from_exit, from_leave, from_serve, outward_on};
+ghost use Rattle.cf_index.specs.PickedFrom.{at_top, from_access, from_emit, from_end, from_exit, from_leave, from_serve, outward_on};
 ghost use Rattle.cf_run.specs.Sweeps.{IsSweeping, PicksFrom, PicksNext, SweepsFrom, SweepsOn, SweepsTo, rule_at, silent};
 
 use crate::counting::count;
@@ -14,7 +15,7 @@ use crate::finished::over;
 use crate::sweep::{make_picked, make_within, sweep_kind, sweep_once, sweep_stages};
 use cf_bind::Move;
 use cf_core::Core;
-use cf_index::{AccessKind, Candidates, ExitKind, LeaveKind, OnceKind, RecoverKind};
+use cf_index::{AccessKind, AtTop, Candidates, RecoverKind};
 use cf_report::Tally;
 use cf_sched::Pace;
 
@@ -142,7 +143,7 @@ fn pass_sidings(core: &mut Core, last: Move, pace: &Pace, limit: u64, tally: &mu
     sweep_sidings(core, last, pace, limit, tally)
 }
 
-/// Makes Leave, if the rule picks it, and asks whether the run is over then: no other move of a round ends a run.
+/// Makes Leave, which the rule picks, and asks whether the run is over then: no other move of a round ends a run.
 #[inline(always)]
 fn take_leave(
     core: &mut Core,
@@ -151,22 +152,43 @@ fn take_leave(
     limit: u64,
     tally: &mut Tally,
 ) -> PartEnd
+    requires ready { IsSweeping limit (rule_at core.old (Some last) pace.old tally.old) }
+    requires picked { PicksNext pace.old core.old (Some last) mv.Leave }
+    ensures swept { SweepsTo limit silent (rule_at core.old (Some last) pace.old tally.old)
+        (rule_at core.new (Some result.last) pace.new tally.new) }
+    ensures from { result.goes_on ≡ true → SweepsFrom limit from_exit (rule_at core.new (Some result.last) pace.new tally.new) }
+    ensures serve { is_allowed core.new.plan core.new.state mv.Serve ≡ false }
+{
+    make_picked(core, last, Move::Leave, pace, limit, tally);
+    PartEnd {
+        last: Move::Leave,
+        goes_on: over(core, limit).is_none(),
+    }
+}
+
+/// Makes Leave, if this is what the instruction of the highest stage can do: the rule picks it then.
+#[inline(always)]
+fn pass_leave(
+    core: &mut Core,
+    last: Move,
+    top: AtTop,
+    pace: &mut Pace,
+    limit: u64,
+    tally: &mut Tally,
+) -> PartEnd
+    requires top { top ≡ at_top core.old.plan core.old.state }
     requires from { SweepsFrom limit from_leave (rule_at core.old (Some last) pace.old tally.old) }
     ensures swept { SweepsTo limit silent (rule_at core.old (Some last) pace.old tally.old)
         (rule_at core.new (Some result.last) pace.new tally.new) }
     ensures from { result.goes_on ≡ true → SweepsFrom limit from_exit (rule_at core.new (Some result.last) pace.new tally.new) }
+    ensures serve { top ≢ at.Serves → is_allowed core.new.plan core.new.state mv.Serve ≡ false }
 {
-    if !LeaveKind::is_left(core) {
-        return PartEnd {
+    match top {
+        AtTop::Leaves => take_leave(core, last, pace, limit, tally),
+        AtTop::Serves | AtTop::Stays => PartEnd {
             last,
             goes_on: true,
-        };
-    }
-    let mv = LeaveKind::only();
-    make_picked(core, last, mv, pace, limit, tally);
-    PartEnd {
-        last: mv,
-        goes_on: over(core, limit).is_none(),
+        },
     }
 }
 
@@ -178,32 +200,39 @@ fn sweep_exit(core: &mut Core, last: Move, pace: &mut Pace, limit: u64, tally: &
         (rule_at core.new (Some result) pace.new tally.new) }
     ensures serve { is_allowed core.new.plan core.new.state mv.Serve ≡ is_allowed core.old.plan core.old.state mv.Serve }
 {
-    if !ExitKind::is_left(core) {
+    if !Candidates::may_exit(core) {
         return last;
     }
-    let mv = ExitKind::only();
-    make_picked(core, last, mv, pace, limit, tally);
-    mv
+    make_picked(core, last, Move::Exit, pace, limit, tally);
+    Move::Exit
 }
 
-/// Makes Exit, if the rule picks it. The next pick is looked for among all moves if it is Serve.
-// Whether Serve is allowed is asked before, where it is known already whether the highest stage has an instruction.
+/// Makes Exit, if the rule picks it. If the instruction of the highest stage can be served, the next pick is to be looked for
+/// among all moves, and otherwise none is left in this round.
 #[inline(always)]
-fn take_exit(core: &mut Core, last: Move, pace: &mut Pace, limit: u64, tally: &mut Tally) -> PartEnd
+fn take_exit(
+    core: &mut Core,
+    last: Move,
+    top: AtTop,
+    pace: &mut Pace,
+    limit: u64,
+    tally: &mut Tally,
+) -> PartEnd
+    requires serve { top ≢ at.Serves → is_allowed core.old.plan core.old.state mv.Serve ≡ false }
     requires from { SweepsFrom limit from_exit (rule_at core.old (Some last) pace.old tally.old) }
     ensures swept { SweepsTo limit silent (rule_at core.old (Some last) pace.old tally.old)
         (rule_at core.new (Some result.last) pace.new tally.new) }
     ensures from { result.goes_on ≡ true → SweepsFrom limit from_end (rule_at core.new (Some result.last) pace.new tally.new) }
 {
-    let serves = Candidates::may_serve(core);
     let exited = sweep_exit(core, last, pace, limit, tally);
     PartEnd {
         last: exited,
-        goes_on: !serves,
+        goes_on: !matches!(top, AtTop::Serves),
     }
 }
 
 /// Makes Leave and Exit, if the rule picks them, until the run is over or the rule picks Serve.
+// The instruction of the highest stage is looked at once: after a Leave there is none, and an Exit leaves it as it is.
 #[inline(always)]
 fn sweep_leaving(
     core: &mut Core,
@@ -217,11 +246,12 @@ fn sweep_leaving(
         (rule_at core.new (Some result.last) pace.new tally.new) }
     ensures from { result.goes_on ≡ true → SweepsFrom limit from_end (rule_at core.new (Some result.last) pace.new tally.new) }
 {
-    let left = take_leave(core, last, pace, limit, tally);
+    let top = Candidates::at_top(core);
+    let left = pass_leave(core, last, top, pace, limit, tally);
     if !left.goes_on {
         return left;
     }
-    take_exit(core, left.last, pace, limit, tally)
+    take_exit(core, left.last, top, pace, limit, tally)
 }
 
 /// Makes the moves of the kinds after those over the stages that the rule picks one after another.

@@ -5,9 +5,6 @@ use Rattle.cf_run.proofs.sweep.make_only.Goals as goal
 pub make_within-requires-clause-picked : goal.make_within-requires-clause-picked
 make_within-requires-clause-picked g c = rw c.only-mv.ensures.value c.requires.picked
 
-pub make_within-requires-clause-before : goal.make_within-requires-clause-before
-make_within-requires-clause-before g c = rw c.only-mv.ensures.value c.requires.within
-
 pub returns : goal.returns
 returns g c =
     let pace = c.args.pace.now in
