@@ -30,6 +30,7 @@ use Rattle.cf_index.proofs.AllowedWords.{climb-on}
 use Rattle.cf_index.proofs.Filled.{stages_chosen}
 use Rattle.cf_index.proofs.Firsts.{found_soon}
 use Rattle.cf_index.proofs.FirstsAfter.{found_second}
+use Rattle.cf_index.proofs.LeftStages.{left_all}
 use Rattle.cf_index.proofs.Places.{places_zero}
 use Rattle.cf_index.proofs.Ranks.{all_both, all_leaving_past, all_map, all_parts, all_slides, all_step, flag_late, found_past, late_slides, later, none_after, none_mapped, none_parts, sooner, word_gone, word_split}
 use Rattle.cf_index.proofs.Rows.{recover-stages}
@@ -77,6 +78,8 @@ all_sends plan s w is = rw is (sym (after_sends plan s))
 
 pub all_launches : (plan : Plan) (s : State) (w : ℕ) → w ≡ (passing_of plan s).launch → left_then Launch w outward_on plan s ≡ from_launch plan s
 all_launches plan s w is = rw is (sym (after_launches plan s))
+
+pub ruleset listing = (left_all, all_climbs, all_falls, all_meets, all_executes, all_sends, all_launches)
 
 -- Emit comes before all of them, if it is allowed
 pub emit_here : (plan : Plan) (s : State) → is_allowed plan s Emit ≡ true → slice_get (from_emit plan s) 0 ≡ Some Emit
@@ -252,7 +255,8 @@ pub met_on : (rule : GuessRule) (held : Bool) (plan : Plan) (s : State) (i w : �
 unfolding AreLeft passing_of
 met_on rule held plan s i w few left =
     left_picked rule held plan s (Meet i) Meet (passing_of plan s).meet w (from_meet plan s) (from_execute plan s) few (omega arith)
-    (λ e. absurd (omega (arith, e))) (past_falls plan s (rank_of (Meet i)) (omega arith) ∙ past_climbs plan s (rank_of (Meet i)) (omega arith)) (after_meets plan s) left
+    (λ e. absurd (omega (arith, e)))
+    (past_falls plan s (rank_of (Meet i)) (omega arith) ∙ past_climbs plan s (rank_of (Meet i)) (omega arith)) (after_meets plan s) left
     (executes_later plan s (rank_of (Meet i)) (omega arith))
 
 past_meets : (plan : Plan) (s : State) (r : Rank) → 4 < r.kind → find (is_past r) (from_execute plan s) ≡ find (is_past r) (from_climb plan s)
@@ -424,7 +428,8 @@ after_recovers plan s m few is =
     filter-append q (at_stages plan Recover) (Leave ∷ Exit ∷ Serve ∷ [])
     ∙ ap (λ (l : List Move). l ++ filter q (Leave ∷ Exit ∷ Serve ∷ [])) (sym (stages_chosen plan s Recover m.recover few (recover-stages plan s m is)))
 
-pub all_recovers : (plan : Plan) (s : State) (m : Masks) → plan.stages ≤ 32 → m ≡ masks_of plan s → left_then Recover m.recover from_leave plan s ≡ from_recover plan s
+pub all_recovers : (plan : Plan) (s : State) (m : Masks) → plan.stages ≤ 32 → m ≡ masks_of plan s →
+    left_then Recover m.recover from_leave plan s ≡ from_recover plan s
 all_recovers plan s m few is = sym (after_recovers plan s m few is)
 
 pub recovered_on : (rule : GuessRule) (held : Bool) (plan : Plan) (s : State) (i w : ℕ) → plan.stages ≤ 32 → AreLeft plan s i Recover w →

@@ -185,14 +185,6 @@ late_slides plan s r late = sym (none_sliding r (is_allowed plan s) 0 plan.sidin
 
 -- Kinds that have a single move --
 
-pub flag_here : (r : Rank) (q : Move → Bool) (mv : Move) (xs : List Move) → r.kind < kind_place mv → q mv ≡ true →
-    Some mv ≡ find (is_past r) (filter q (mv ∷ xs))
-flag_here r q mv xs after free = rw (free, later r mv after) refl
-
-pub flag_barred : (r : Rank) (q : Move → Bool) (mv : Move) (xs : List Move) → q mv ≡ false →
-    find (is_past r) (filter q xs) ≡ find (is_past r) (filter q (mv ∷ xs))
-flag_barred r q mv xs barred = rw barred refl
-
 late_step : (p : Move → Bool) (b : Bool) (x : Move) (xs : List Move) → p x ≡ false → find p xs ≡ find p (cond b (x ∷ xs) xs)
 late_step p true x xs e = rw e refl
 late_step p false x xs e = refl

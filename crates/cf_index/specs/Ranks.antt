@@ -9,10 +9,6 @@ use Rattle.cf_index.specs.Order.{below_or, kind_place, place}
 abbrev pub rank_of : Move → Rank
 rank_of mv = record { kind = kind_place mv; place = place mv }
 
--- the first of all ranks
-abbrev pub first_rank : Rank
-first_rank = record { kind = 0; place = 0 }
-
 -- the move comes after the rank
 abbrev pub is_past : Rank → Move → Bool
 is_past r mv = below_or r.kind (kind_place mv) (nat_lt r.place (place mv))

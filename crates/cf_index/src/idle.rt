@@ -34,7 +34,8 @@ pub(crate) fn accesses(core: &Core) -> bool
 }
 
 impl Candidates {
-    /// Whether no siding has an operation. Then of the moves after those over the stages only Leave, Exit and Serve can be allowed.
+    /// Whether no siding has an operation. Then of the moves after those over the stages only Leave, Exit and Serve can be
+    /// allowed.
     #[inline(always)]
     #[tactic(auto, using(crate::proofs::EmptySidings::idle_outward))]
     pub fn sidings_empty(core: &Core) -> bool

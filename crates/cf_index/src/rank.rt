@@ -3,7 +3,7 @@
 ghost use Rattle.std.specs.Prelude.{◌≡◌, ℕ, ◌+◌, ◌<◌, ◌&&◌, nat_lt};
 ghost use Rattle.cf_layout.specs.Words.{has_bit};
 ghost use Rattle.cf_index.specs.Order.{below_or};
-ghost use Rattle.cf_index.specs.Ranks.{first_rank, rank_of};
+ghost use Rattle.cf_index.specs.Ranks.{rank_of};
 
 use crate::words::past;
 use cf_bind::{Guess, Move};
@@ -46,17 +46,6 @@ pub struct Rank {
 }
 
 impl Rank {
-    /// The first of all ranks. Each move but an Issue comes after it.
-    #[inline(always)]
-    pub fn first() -> Rank
-        ensures { result ≡ first_rank }
-    {
-        Rank {
-            kind: ISSUE,
-            place: 0,
-        }
-    }
-
     /// The rank of a move.
     #[inline(always)]
     pub fn of(mv: Move) -> Rank

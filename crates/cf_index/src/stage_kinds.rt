@@ -83,7 +83,7 @@ impl StageKind for FallKind {
     }
 
     #[inline(always)]
-    #[tactic(auto, using(crate::proofs::LeftStages::left_all, crate::proofs::PickedFrom::all_falls), unfolding(crate::specs::Allowed::passing_of))]
+    #[tactic(auto, using(crate::proofs::PickedFrom::listing), unfolding(crate::specs::Allowed::passing_of))]
     fn left(core: &Core) -> u32 {
         let masks = core.open_masks();
         falls(core, &masks, true)
@@ -112,7 +112,7 @@ impl StageKind for MeetKind {
     }
 
     #[inline(always)]
-    #[tactic(auto, using(crate::proofs::LeftStages::left_all, crate::proofs::PickedFrom::all_meets), unfolding(crate::specs::Allowed::passing_of))]
+    #[tactic(auto, using(crate::proofs::PickedFrom::listing), unfolding(crate::specs::Allowed::passing_of))]
     fn left(core: &Core) -> u32 {
         let masks = core.open_masks();
         meets(core, &masks, true)
@@ -138,7 +138,7 @@ impl StageKind for ExecuteKind {
     }
 
     #[inline(always)]
-    #[tactic(auto, using(crate::proofs::LeftStages::left_all, crate::proofs::PickedFrom::all_executes), unfolding(crate::specs::Allowed::passing_of))]
+    #[tactic(auto, using(crate::proofs::PickedFrom::listing), unfolding(crate::specs::Allowed::passing_of))]
     fn left(core: &Core) -> u32 {
         let masks = core.open_masks();
         executes(core, &masks)
@@ -164,7 +164,7 @@ impl StageKind for SendKind {
     }
 
     #[inline(always)]
-    #[tactic(auto, using(crate::proofs::LeftStages::left_all, crate::proofs::PickedFrom::all_sends), unfolding(crate::specs::Allowed::passing_of))]
+    #[tactic(auto, using(crate::proofs::PickedFrom::listing), unfolding(crate::specs::Allowed::passing_of))]
     fn left(core: &Core) -> u32 {
         let masks = core.open_masks();
         sends(core, &masks, true)
@@ -190,7 +190,7 @@ impl StageKind for LaunchKind {
     }
 
     #[inline(always)]
-    #[tactic(auto, using(crate::proofs::LeftStages::left_all, crate::proofs::PickedFrom::all_launches), unfolding(crate::specs::Allowed::passing_of))]
+    #[tactic(auto, using(crate::proofs::PickedFrom::listing), unfolding(crate::specs::Allowed::passing_of))]
     fn left(core: &Core) -> u32 {
         let masks = core.open_masks();
         launches(core, &masks)
@@ -233,7 +233,7 @@ impl StageKind for RecoverKind {
 
 /// The stages at which a Climb is allowed, as a word with bit i - 1 for stage i.
 #[inline(always)]
-#[tactic(auto, using(crate::proofs::LeftStages::left_all, crate::proofs::PickedFrom::all_climbs), unfolding(crate::specs::Allowed::passing_of))]
+#[tactic(auto, using(crate::proofs::PickedFrom::listing), unfolding(crate::specs::Allowed::passing_of))]
 pub fn all_climbs(core: &Core) -> u32
     requires { goes_on core.now.state ≡ true }
     ensures stages { AreLeft core.now.plan core.now.state 0 mv.Climb result }

@@ -358,11 +358,6 @@ pub unset : (b : Bool) → not b ≡ true → b ≡ false
 unset false e = refl
 unset true e = absurd (cc)
 
--- what holds where there is something
-pub known-there : {A P : Type 0} (o : Option A) → IfSome o (λ x. P) → is_some o ≡ true → P
-known-there None h some = absurd (cc)
-known-there (Some x) h some = h
-
 -- What holds on the way --
 
 -- one more move can be counted
