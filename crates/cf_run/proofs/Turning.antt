@@ -1,5 +1,5 @@
 -- Turns of the rule: what a move of a sweep leaves as it is, and where some turns lead.
-use Rattle.std.specs.Prelude.{IfSome, MatchOption, is_some, not, slice_get, slice_set}
+use Rattle.std.specs.Prelude.{MatchOption, is_some, not, slice_get, slice_set}
 use Rattle.std.proofs.Common.{◌≡◌, ◌≢◌, ◌∙◌, sym, refl, ap, subst, ℕ, zero, suc, ◌+◌, ◌-◌, ◌*◌, ◌≤◌, ◌<◌, ◌^◌, List, [], ◌∷◌, Bool, true, false, cond, Option, Some, None, Ok, arith}
 use Rattle.std.proofs.Math.Nat.{min-eq_left, min-le_right}
 use Rattle.run_options.specs.declared.guess_rule.GuessRule.{GuessRule}

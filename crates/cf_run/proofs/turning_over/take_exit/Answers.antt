@@ -1,4 +1,4 @@
-use Rattle.std.proofs.Common.{◌≡◌, ◌≢◌, ◌∙◌, sym}
+use Rattle.std.proofs.Common.{◌≢◌, ◌∙◌, sym}
 use Rattle.cf_index.specs.declared.pipe_ends.AtTop.TheVariants as at
 use Rattle.cf_index.proofs.PickedFrom.{picked_on, serve_off}
 use Rattle.cf_run.proofs.Turning.{unset}
