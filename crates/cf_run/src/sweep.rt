@@ -206,8 +206,8 @@ fn sweep_falls_singly(
     sweep_kind::<FallKind>(core, last, pace, limit, tally)
 }
 
-/// The same.
-// What the call takes and answers is copied here, so that it stays in registers where this is not called.
+/// The same. This calls the function above.
+// What the call takes and answers is copied here, so that it stays in registers where there is no call.
 #[inline(always)]
 fn sweep_falls_apart(
     core: &mut Core,
@@ -280,8 +280,8 @@ pub(crate) fn sweep_once<T: OnceKind>(
     }
 }
 
-/// Makes the moves of Emit and of each kind over the stages that the rule picks one after another, if it picks the first that is
-/// allowed next; and answers its last pick.
+/// Makes the moves of Emit and of each kind over the stages that the rule picks one after another, and answers its last pick. At first
+/// the rule picks the first move that is allowed of Emit and of the kinds after it.
 // It is a part of the loop over rounds, of which the caller makes a call.
 #[inline(always)]
 pub(crate) fn sweep_stages(

@@ -275,8 +275,8 @@ fn sweep_outward(
     sweep_leaving(core, passed.last, pace, limit, tally)
 }
 
-/// Makes moves that the rule picks one after another, round after round, if it picks the first that is allowed of Emit and of
-/// the kinds after it next, until the next one is to be looked for among all moves.
+/// Makes moves that the rule picks one after another, round after round, until the next one is to be looked for among all
+/// moves. At first the rule picks the first move that is allowed of Emit and of the kinds after it.
 // Not inlined; it has all parts of a round in it.
 #[inline(never)]
 pub(crate) fn sweep_rounds(
