@@ -1,5 +1,5 @@
--- Turns of the rule: what a move of a sweep leaves as it is, and where some turns lead.
-use Rattle.std.specs.Prelude.{MatchOption, is_some, not, slice_get, slice_set}
+-- Turns of a policy: what a move leaves as it is, and where some turns lead; and what the rule picks in a sweep.
+use Rattle.std.specs.Prelude.{IfSome, MatchOption, is_some, not, slice_get, slice_set}
 use Rattle.std.proofs.Common.{◌≡◌, ◌≢◌, ◌∙◌, sym, refl, ap, subst, ℕ, zero, suc, ◌+◌, ◌-◌, ◌*◌, ◌≤◌, ◌<◌, ◌^◌, List, [], ◌∷◌, Bool, true, false, cond, Option, Some, None, Ok, arith}
 use Rattle.std.proofs.Math.Nat.{min-eq_left, min-le_right}
 use Rattle.run_options.specs.declared.guess_rule.GuessRule.{GuessRule}
@@ -41,7 +41,7 @@ use Rattle.cf_run.specs.Made.{CanCount, Made, counted_event, shown}
 use Rattle.cf_run.specs.Moving.{RunPlace, MoveDoes, run_place_of}
 use Rattle.cf_run.specs.Policies.{Turned, chooser, choice, most_moves}
 use Rattle.cf_run.specs.Reaching.{GoesOn, IsOver}
-use Rattle.cf_run.specs.Sweeps.{HasCome, HasPicked, IsSweeping, Keeps, PicksNext, RulePlace, SweepsFrom, SweepsOn, SweepsTo, TurnsOnce, TurnsTo, exposing, rule_at, silent}
+use Rattle.cf_run.specs.Sweeps.{HasArrived, HasPicked, IsSweeping, IsUnderWay, Keeps, LeadsTo, PicksNext, PolicyPlace, RulePlace, SweepsFrom, SweepsOn, SweepsTo, TurnsOnce, TurnsTo, exposing, policy_at, rule_at, silent}
 use Rattle.cf_run.proofs.ByRule.{ruled-allowed}
 use Rattle.cf_run.proofs.Coming.{asked-comes, comes-bounded, comes-counted, comes-more, seen-count, turned-counted, turned-plan, turned-within}
 use Rattle.cf_run.proofs.Occupied.{same-pace}
@@ -185,15 +185,17 @@ pub picked_free : (rule : GuessRule) (plan : Plan) (count : ℕ) (s : State) (la
     IsPicked rule (is_held plan count) plan s last m → bar plan s m ≡ None
 picked_free rule plan count s last m picked = ruled-allowed rule plan count s _ m (chosen_so rule plan count s last m picked)
 
--- and once it is made, counted and recorded by the pace, the rule has made one turn
-picked_turn : (limit : ℕ) (now : RulePlace) (core : Processor) (m : Move) (pace : PaceCount) (tally : Tally) (e : Event) (seen : Bool) →
-    kind_place m ≤ 12 → IsSweeping limit now → PicksNext now.pace now.core now.last m → core ≡ after_move now.core m →
+-- once a choice of a policy is made, counted and recorded by the pace, the policy has made one turn
+chosen_turn : {P : Type 0} (picked : P → List Move → ℕ) (onward : P → List Move → P) (limit : ℕ) (now : PolicyPlace P) (core : Processor) (m : Move)
+    (later : P) (pace : PaceCount) (tally : Tally) (e : Event) (seen : Bool) →
+    kind_place m ≤ 12 → IsUnderWay picked onward limit now →
+    choice picked now.core.plan (chooser now.pace.rule now.policy now.pace.count) now.core.state ≡ Some m →
+    later ≡ onward now.policy (offered_by now.pace.rule now.core.plan now.pace.count now.core.state) → core ≡ after_move now.core m →
     IsEvent now.core.plan now.core.state m e → tally ≡ counted_event now.tally m e → pace ≡ saw now.pace m e seen → seen ≡ is_drained core.state →
-    TurnsOnce limit silent now (rule_at core (Some m) pace tally)
-picked_turn limit now core m pace tally e seen early ready picked is event counts told drained =
+    TurnsOnce picked onward limit silent now (policy_at core later pace tally)
+chosen_turn picked onward limit now core m later pace tally e seen early ready chosen goes_to is event counts told drained =
     let plan = now.core.plan in
-    let chosen = chosen_so now.pace.rule plan now.pace.count now.core.state now.last m picked in
-    let free = picked_free now.pace.rule plan now.pace.count now.core.state now.last m picked in
+    let free = ruled-allowed now.pace.rule plan now.pace.count now.core.state _ m chosen in
     record {
       turned = λ streams report. record {
         takes = record {
@@ -203,7 +205,7 @@ picked_turn limit now core m pace tally e seen early ready picked is event count
           event = e;
           does = does_unshown m now.core core streams report now.tally tally e early free is event counts;
         };
-        policy_is = sym chosen;
+        policy_is = goes_to;
         count_is = seen-count now.pace pace m e seen (is_drained core.state) plan.stages told drained ready.come.stages;
       };
       rule = ap (λ (p : PaceCount). p.rule) told;
@@ -213,74 +215,79 @@ picked_turn limit now core m pace tally e seen early ready picked is event count
 
 -- Turn after turn --
 
-pub no_turns : (limit : ℕ) (show : Reporting) (now : RulePlace) → SweepsTo limit show now now
-unfolding SweepsTo TurnsTo
-no_turns limit show now = (0, refl)
-
-one_more_turn : (limit : ℕ) (show : Reporting) (now between new : RulePlace) → SweepsTo limit show now between → TurnsOnce limit show between new →
-    SweepsTo limit show now new
-unfolding SweepsTo TurnsTo
-one_more_turn limit show now between new (n, turns) t = (suc n, (between, turns, t))
-
-turns_on : (limit : ℕ) (show : Reporting) (now between new : RulePlace) (n : ℕ) → SweepsTo limit show now between → TurnsTo limit show n between new →
-    SweepsTo limit show now new
+pub no_turns : {P : Type 0} {picked : P → List Move → ℕ} {onward : P → List Move → P} (limit : ℕ) (show : Reporting) (now : PolicyPlace P) →
+    LeadsTo picked onward limit show now now
 unfolding TurnsTo
-turns_on limit show now between new zero first same = subst (SweepsTo limit show now) (sym same) first
-turns_on limit show now between new (suc n) first (place, turns, t) =
-    one_more_turn limit show now place new (turns_on limit show now between place n first turns) t
+no_turns limit show now = record { count = 0; turns = refl }
 
--- one sweep after another
-pub sweeps_on : (limit : ℕ) (show : Reporting) (now between new : RulePlace) → SweepsTo limit show now between → SweepsTo limit show between new →
-    SweepsTo limit show now new
-unfolding SweepsTo
-sweeps_on limit show now between new first (n, turns) = turns_on limit show now between new n first turns
+one_more_turn : {P : Type 0} {picked : P → List Move → ℕ} {onward : P → List Move → P} (limit : ℕ) (show : Reporting) (now between new : PolicyPlace P) →
+    LeadsTo picked onward limit show now between → TurnsOnce picked onward limit show between new →
+    LeadsTo picked onward limit show now new
+unfolding TurnsTo
+one_more_turn limit show now between new first t = record { count = suc first.count; turns = (between, first.turns, t) }
+
+turns_on : {P : Type 0} (picked : P → List Move → ℕ) (onward : P → List Move → P) (limit : ℕ) (show : Reporting) (now between new : PolicyPlace P) (n : ℕ) →
+    LeadsTo picked onward limit show now between → TurnsTo picked onward limit show n between new →
+    LeadsTo picked onward limit show now new
+unfolding TurnsTo
+turns_on picked onward limit show now between new zero first same = subst (LeadsTo picked onward limit show now) (sym same) first
+turns_on picked onward limit show now between new (suc n) first (place, turns, t) =
+    one_more_turn limit show now place new (turns_on picked onward limit show now between place n first turns) t
+
+-- one after the other
+pub sweeps_on : {P : Type 0} {picked : P → List Move → ℕ} {onward : P → List Move → P} (limit : ℕ) (show : Reporting) (now between new : PolicyPlace P) →
+    LeadsTo picked onward limit show now between → LeadsTo picked onward limit show between new →
+    LeadsTo picked onward limit show now new
+sweeps_on limit show now between new first second = turns_on _ _ limit show now between new second.count first second.turns
 
 -- where a run has come by a sweep; a stream that its moves had used before counts as used now
-pub record ComesBy (rule : GuessRule) (limit : ℕ) (show : Reporting) (begin : RunPlace) (first : Option Move) (streams : Streams) (report : Option (List ℕ))
-    (now new : RulePlace)
-    (c : HasPicked rule round_pick round_on limit show begin (exposing now streams report) first now.last now.pace.count) : Type 0 where
+pub record ComesBy {P : Type 0} (picked : P → List Move → ℕ) (onward : P → List Move → P) (rule : GuessRule) (limit : ℕ) (show : Reporting) (begin : RunPlace)
+    (first : P) (streams : Streams) (report : Option (List ℕ))
+    (now new : PolicyPlace P)
+    (c : HasPicked rule picked onward limit show begin (exposing now streams report) first now.policy now.pace.count) : Type 0 where
   pub rule_is : new.pace.rule ≡ rule
-  pub comes : HasPicked rule round_pick round_on limit show begin (exposing new streams report) first new.last new.pace.count
+  pub comes : HasPicked rule picked onward limit show begin (exposing new streams report) first new.policy new.pace.count
   pub input : SomeAsks AsksInput begin.core.plan begin.core.state c.reached.trace →
       SomeAsks AsksInput begin.core.plan begin.core.state comes.reached.trace
   pub output : SomeAsks AsksOutput begin.core.plan begin.core.state c.reached.trace →
       SomeAsks AsksOutput begin.core.plan begin.core.state comes.reached.trace
 
-comes_turns : (rule : GuessRule) (limit : ℕ) (show : Reporting) (begin : RunPlace) (first : Option Move) (streams : Streams) (report : Option (List ℕ))
-    (now new : RulePlace) (n : ℕ)
-    (c : HasPicked rule round_pick round_on limit show begin (exposing now streams report) first now.last now.pace.count) → now.pace.rule ≡ rule →
-    TurnsTo limit show n now new → ComesBy rule limit show begin first streams report now new c
+comes_turns : {P : Type 0} (picked : P → List Move → ℕ) (onward : P → List Move → P) (rule : GuessRule) (limit : ℕ) (show : Reporting) (begin : RunPlace)
+    (first : P) (streams : Streams) (report : Option (List ℕ))
+    (now new : PolicyPlace P) (n : ℕ)
+    (c : HasPicked rule picked onward limit show begin (exposing now streams report) first now.policy now.pace.count) → now.pace.rule ≡ rule →
+    TurnsTo picked onward limit show n now new → ComesBy picked onward rule limit show begin first streams report now new c
 unfolding TurnsTo
-comes_turns rule limit show begin first streams report now new zero c is same =
-    subst (λ (p : RulePlace). ComesBy rule limit show begin first streams report now p c) (sym same)
+comes_turns picked onward rule limit show begin first streams report now new zero c is same =
+    subst (λ (p : PolicyPlace _). ComesBy picked onward rule limit show begin first streams report now p c) (sym same)
     (record { rule_is = is; comes = c; input = λ a. a; output = λ a. a })
-comes_turns rule limit show begin first streams report now new (suc n) c is (between, turns, t) =
-    let so_far = comes_turns rule limit show begin first streams report now between n c is turns in
+comes_turns picked onward rule limit show begin first streams report now new (suc n) c is (between, turns, t) =
+    let so_far = comes_turns picked onward rule limit show begin first streams report now between n c is turns in
     let before = exposing between streams report in
     let after = exposing new streams report in
-    let later = chooser rule new.last new.pace.count in
-    let turn : Turned round_pick round_on limit show before after (chooser rule between.last between.pace.count) later =
-    subst (λ (r : GuessRule). Turned round_pick round_on limit show before after (chooser r between.last between.pace.count)
-    (chooser r new.last new.pace.count)) so_far.rule_is (t.turned streams report) in
+    let later = chooser rule new.policy new.pace.count in
+    let turn : Turned picked onward limit show before after (chooser rule between.policy between.pace.count) later =
+    subst (λ (r : GuessRule). Turned picked onward limit show before after (chooser r between.policy between.pace.count)
+    (chooser r new.policy new.pace.count)) so_far.rule_is (t.turned streams report) in
     record {
       rule_is = t.rule ∙ so_far.rule_is;
-      comes = comes-more rule round_pick round_on limit show begin before after first between.last between.pace.count later so_far.comes turn;
-      input = λ a. asked-comes rule round_pick round_on AsksInput limit show begin before after first between.last between.pace.count later so_far.comes turn
+      comes = comes-more rule picked onward limit show begin before after first between.policy between.pace.count later so_far.comes turn;
+      input = λ a. asked-comes rule picked onward AsksInput limit show begin before after first between.policy between.pace.count later so_far.comes turn
           (so_far.input a);
-      output = λ a. asked-comes rule round_pick round_on AsksOutput limit show begin before after first between.last between.pace.count later so_far.comes turn
+      output = λ a. asked-comes rule picked onward AsksOutput limit show begin before after first between.policy between.pace.count later so_far.comes turn
           (so_far.output a);
     }
 
-pub comes-by : (rule : GuessRule) (limit : ℕ) (show : Reporting) (begin : RunPlace) (first : Option Move) (streams : Streams) (report : Option (List ℕ))
-    (now new : RulePlace) (c : HasPicked rule round_pick round_on limit show begin (exposing now streams report) first now.last now.pace.count) →
-    now.pace.rule ≡ rule → SweepsTo limit show now new → ComesBy rule limit show begin first streams report now new c
-unfolding SweepsTo
-comes-by rule limit show begin first streams report now new c is (n, turns) = comes_turns rule limit show begin first streams report now new n c is turns
+pub comes-by : {P : Type 0} {picked : P → List Move → ℕ} {onward : P → List Move → P} (rule : GuessRule) (limit : ℕ) (show : Reporting) (begin : RunPlace)
+    (first : P) (streams : Streams) (report : Option (List ℕ))
+    (now new : PolicyPlace P) (c : HasPicked rule picked onward limit show begin (exposing now streams report) first now.policy now.pace.count) →
+    now.pace.rule ≡ rule → LeadsTo picked onward limit show now new → ComesBy picked onward rule limit show begin first streams report now new c
+comes-by rule limit show begin first streams report now new c is led = comes_turns _ _ rule limit show begin first streams report now new led.count c is led.turns
 
 -- What a sweep leaves --
 
 -- the rule, the layout and the streams' faults are unchanged, the limit is not passed, and no fewer moves are counted
-pub record Onward (limit : ℕ) (now new : RulePlace) : Type 0 where
+pub record Onward {P : Type 0} (limit : ℕ) (now new : PolicyPlace P) : Type 0 where
   pub rule : new.pace.rule ≡ now.pace.rule
   pub stages : new.pace.stages ≡ now.pace.stages
   pub plan : new.core.plan ≡ now.core.plan
@@ -288,32 +295,34 @@ pub record Onward (limit : ℕ) (now new : RulePlace) : Type 0 where
   pub within : now.core.state.retired ≤ limit → new.core.state.retired ≤ limit
   pub moves : now.tally.moves ≤ new.tally.moves
 
-turns_onward : (limit : ℕ) (show : Reporting) (now new : RulePlace) (n : ℕ) → TurnsTo limit show n now new → Onward limit now new
+turns_onward : {P : Type 0} (picked : P → List Move → ℕ) (onward : P → List Move → P) (limit : ℕ) (show : Reporting) (now new : PolicyPlace P) (n : ℕ) →
+    TurnsTo picked onward limit show n now new → Onward limit now new
 unfolding TurnsTo
-turns_onward limit show now new zero same =
+turns_onward picked onward limit show now new zero same =
     rw same (record { rule = refl; stages = refl; plan = refl; works = refl; within = λ h. h; moves = omega arith })
-turns_onward limit show now new (suc n) (between, turns, t) =
-    let so_far = turns_onward limit show now between n turns in
+turns_onward picked onward limit show now new (suc n) (between, turns, t) =
+    let so_far = turns_onward picked onward limit show now between n turns in
     let turn = t.turned (streams_of None None) None in
     record {
       rule = t.rule ∙ so_far.rule;
       stages = t.stages ∙ so_far.stages;
-      plan = turned-plan round_pick round_on limit show _ _ _ _ turn ∙ so_far.plan;
+      plan = turned-plan picked onward limit show _ _ _ _ turn ∙ so_far.plan;
       works = t.works ∙ so_far.works;
-      within = λ before. turned-within round_pick round_on limit show _ _ _ _ turn;
+      within = λ before. turned-within picked onward limit show _ _ _ _ turn;
       moves =
           let more = so_far.moves in
-          let one = turned-counted round_pick round_on limit show _ _ _ _ turn in
+          let one = turned-counted picked onward limit show _ _ _ _ turn in
           omega (arith, more, one);
     }
 
-pub sweeps-onward : (limit : ℕ) (show : Reporting) (now new : RulePlace) → SweepsTo limit show now new → Onward limit now new
-unfolding SweepsTo
-sweeps-onward limit show now new (n, turns) = turns_onward limit show now new n turns
+pub sweeps-onward : {P : Type 0} {picked : P → List Move → ℕ} {onward : P → List Move → P} (limit : ℕ) (show : Reporting) (now new : PolicyPlace P) →
+    LeadsTo picked onward limit show now new → Onward limit now new
+sweeps-onward limit show now new led = turns_onward _ _ limit show now new led.count led.turns
 
 -- a run that has come to where a sweep begins has come to where it ends
-pub come_on : (limit : ℕ) (show : Reporting) (now new : RulePlace) → HasCome limit show now → SweepsTo limit show now new → HasCome limit show new
-come_on limit show now new come swept =
+pub come_on : {P : Type 0} {picked : P → List Move → ℕ} {onward : P → List Move → P} (limit : ℕ) (show : Reporting) (now new : PolicyPlace P) →
+    HasArrived picked onward limit show now → LeadsTo picked onward limit show now new → HasArrived picked onward limit show new
+come_on {picked = picked} {onward = onward} limit show now new come swept =
     let on = sweeps-onward limit show now new swept in
     let by = comes-by now.pace.rule limit show come.begin come.first come.streams come.report now new come.comes refl swept in
     record {
@@ -324,7 +333,7 @@ come_on limit show now new come swept =
       opened = come.opened;
       streams = come.streams;
       report = come.report;
-      comes = subst (λ (r : GuessRule). HasPicked r round_pick round_on limit show come.begin (exposing new come.streams come.report) come.first new.last
+      comes = subst (λ (r : GuessRule). HasPicked r picked onward limit show come.begin (exposing new come.streams come.report) come.first new.policy
           new.pace.count) (sym on.rule) by.comes;
       limit_allowed = come.limit_allowed;
       within = on.within come.within;
@@ -332,8 +341,9 @@ come_on limit show now new come swept =
     }
 
 -- and the next part of the sweep begins there if the run goes on
-pub sweeping-on : (limit : ℕ) (now new : RulePlace) → IsSweeping limit now → SweepsTo limit silent now new → GoesOn limit new.core.state →
-    IsSweeping limit new
+pub sweeping-on : {P : Type 0} {picked : P → List Move → ℕ} {onward : P → List Move → P} (limit : ℕ) (now new : PolicyPlace P) →
+    IsUnderWay picked onward limit now → LeadsTo picked onward limit silent now new → GoesOn limit new.core.state →
+    IsUnderWay picked onward limit new
 sweeping-on limit now new ready swept goes = record {
   come = come_on limit silent now new ready.come swept;
   goes = goes;
@@ -361,42 +371,48 @@ unset true e = absurd (cc)
 -- What holds on the way --
 
 -- one more move can be counted
-pub come-counts : (limit : ℕ) (show : Reporting) (at : RulePlace) → HasCome limit show at → CanCount at.tally
+pub come-counts : {P : Type 0} {picked : P → List Move → ℕ} {onward : P → List Move → P} (limit : ℕ) (show : Reporting) (at : PolicyPlace P) →
+    HasArrived picked onward limit show at → CanCount at.tally
 come-counts limit show at h =
-    let few = comes-counted at.pace.rule round_pick round_on limit show h.begin (exposing at h.streams h.report) h.first at.last at.pace.count h.accepted
+    let few = comes-counted at.pace.rule _ _ limit show h.begin (exposing at h.streams h.report) h.first at.policy at.pace.count h.accepted
     h.registers h.opened h.comes h.within h.limit_allowed in
     can-count limit show h.begin (exposing at h.streams h.report) h.comes.reached (omega (arith, few))
 
 -- one more instruction too
-pub can-retire : (limit : ℕ) (at : RulePlace) → IsSweeping limit at → at.core.state.retired + 1 < 2 ^ 64
+pub can-retire : {P : Type 0} {picked : P → List Move → ℕ} {onward : P → List Move → P} (limit : ℕ) (at : PolicyPlace P) → IsUnderWay picked onward limit at →
+    at.core.state.retired + 1 < 2 ^ 64
 can-retire limit at ready =
     let below = ready.goes.below in
     let few = ready.come.limit_allowed in
     omega (arith, below, few)
 
 -- the layout is the one that was opened
-same_plan : (limit : ℕ) (show : Reporting) (at : RulePlace) (h : HasCome limit show at) → at.core.plan ≡ h.begin.core.plan
+same_plan : {P : Type 0} {picked : P → List Move → ℕ} {onward : P → List Move → P} (limit : ℕ) (show : Reporting) (at : PolicyPlace P)
+    (h : HasArrived picked onward limit show at) → at.core.plan ≡ h.begin.core.plan
 same_plan limit show at h = ap (λ (p : Processor). p.plan) h.comes.reached.core
 
 -- so it has at most 32 stages
-pub few-stages : (limit : ℕ) (at : RulePlace) → IsSweeping limit at → at.core.plan.stages ≤ 32
+pub few-stages : {P : Type 0} {picked : P → List Move → ℕ} {onward : P → List Move → P} (limit : ℕ) (at : PolicyPlace P) → IsUnderWay picked onward limit at →
+    at.core.plan.stages ≤ 32
 few-stages limit at ready =
     let few = ready.come.accepted.stages.1 in
     let same = ap (λ (p : Plan). p.stages) (same_plan limit silent at ready.come) in
     omega (arith, few, same)
 
 -- also after a sweep
-pub few_after : (limit : ℕ) (now new : RulePlace) → IsSweeping limit now → SweepsTo limit silent now new → new.core.plan.stages ≤ 32
+pub few_after : {P : Type 0} {picked : P → List Move → ℕ} {onward : P → List Move → P} (limit : ℕ) (now new : PolicyPlace P) →
+    IsUnderWay picked onward limit now → LeadsTo picked onward limit silent now new → new.core.plan.stages ≤ 32
 few_after limit now new ready swept =
     let few = few-stages limit now ready in
     let same = ap (λ (p : Plan). p.stages) (sweeps-onward limit silent now new swept).plan in
     omega (arith, few, same)
 
 -- and fewer moves are left after some that were counted
-pub come-nearer : (limit : ℕ) (show : Reporting) (begin at : RulePlace) (made : ℕ) → HasCome limit show at → SweepsTo limit show begin at →
+pub come-nearer : {P : Type 0} {picked : P → List Move → ℕ} {onward : P → List Move → P} (limit : ℕ) (show : Reporting) (begin at : PolicyPlace P)
+    (made : ℕ) → HasArrived picked onward limit show at → LeadsTo picked onward limit show begin at →
     made < at.tally.moves → most_moves begin.core.plan limit - at.tally.moves < most_moves begin.core.plan limit - made
 come-nearer limit show begin at made h swept more =
-    let few = comes-bounded at.pace.rule round_pick round_on limit show h.begin (exposing at h.streams h.report) h.first at.last at.pace.count h.accepted
+    let few = comes-bounded at.pace.rule _ _ limit show h.begin (exposing at h.streams h.report) h.first at.policy at.pace.count h.accepted
     h.registers h.opened h.comes h.within in
     let same = (sweeps-onward limit show begin at swept).plan in
     subst (λ (p : Plan). most_moves p limit - at.tally.moves < most_moves p limit - made) (sym (same_plan limit show at h) ∙ same)
@@ -406,7 +422,8 @@ come-nearer limit show begin at made h swept more =
     less most made new few more = omega (arith, few, more)
 
 -- also after a sweep and one move
-pub made-nearer : (limit : ℕ) (begin now new : RulePlace) → IsSweeping limit new → SweepsTo limit silent begin now → SweepsTo limit silent now new →
+pub made-nearer : {P : Type 0} {picked : P → List Move → ℕ} {onward : P → List Move → P} (limit : ℕ) (begin now new : PolicyPlace P) →
+    IsUnderWay picked onward limit new → LeadsTo picked onward limit silent begin now → LeadsTo picked onward limit silent now new →
     new.tally.moves ≡ now.tally.moves + 1 → most_moves begin.core.plan limit - new.tally.moves < most_moves begin.core.plan limit - now.tally.moves
 made-nearer limit begin now new ready first swept counted =
     come-nearer limit silent begin new now.tally.moves ready.come (sweeps_on limit silent begin now new first swept) (omega (arith, counted))
@@ -415,30 +432,45 @@ made-nearer limit begin now new ready first swept counted =
 pub fewer_left : (most now between new : ℕ) → now ≤ between → most - new < most - between → most - new < most - now
 fewer_left most now between new grows near = omega (arith, grows, near)
 
-pub goes_on_so : (limit : ℕ) (at : RulePlace) → IsSweeping limit at → goes_on at.core.state ≡ true
+pub goes_on_so : {P : Type 0} {picked : P → List Move → ℕ} {onward : P → List Move → P} (limit : ℕ) (at : PolicyPlace P) → IsUnderWay picked onward limit at →
+    goes_on at.core.state ≡ true
 goes_on_so limit at ready = rw (ready.goes.unended, ready.works) refl
 
 -- One pick --
 
--- a picked move that was made, counted and recorded by the pace is a sweep
+-- a choice that was made, counted and recorded by the pace leads on
+pub chosen-leads : {P : Type 0} (picked : P → List Move → ℕ) (onward : P → List Move → P) (limit : ℕ) (now : PolicyPlace P) (core : Processor) (m : Move)
+    (later : P) (pace : PaceCount) (tally : Tally) (e : Event) (seen : Bool) →
+    kind_place m ≤ 12 → IsUnderWay picked onward limit now →
+    choice picked now.core.plan (chooser now.pace.rule now.policy now.pace.count) now.core.state ≡ Some m →
+    later ≡ onward now.policy (offered_by now.pace.rule now.core.plan now.pace.count now.core.state) → core ≡ after_move now.core m →
+    IsEvent now.core.plan now.core.state m e → tally ≡ counted_event now.tally m e → pace ≡ saw now.pace m e seen → seen ≡ is_drained core.state →
+    LeadsTo picked onward limit silent now (policy_at core later pace tally)
+chosen-leads picked onward limit now core m later pace tally e seen early ready chosen goes_to is event counts told drained =
+    one_more_turn limit silent now now (policy_at core later pace tally) (no_turns limit silent now)
+    (chosen_turn picked onward limit now core m later pace tally e seen early ready chosen goes_to is event counts told drained)
+
+-- so does the rule's pick
 pub picked-sweeps : (limit : ℕ) (now : RulePlace) (core : Processor) (m : Move) (pace : PaceCount) (tally : Tally) (e : Event) (seen : Bool) →
-    kind_place m ≤ 12 → IsSweeping limit now → PicksNext now.pace now.core now.last m → core ≡ after_move now.core m →
+    kind_place m ≤ 12 → IsSweeping limit now → PicksNext now.pace now.core now.policy m → core ≡ after_move now.core m →
     IsEvent now.core.plan now.core.state m e → tally ≡ counted_event now.tally m e → pace ≡ saw now.pace m e seen → seen ≡ is_drained core.state →
     SweepsTo limit silent now (rule_at core (Some m) pace tally)
 picked-sweeps limit now core m pace tally e seen early ready picked is event counts told drained =
-    one_more_turn limit silent now now (rule_at core (Some m) pace tally) (no_turns limit silent now)
-    (picked_turn limit now core m pace tally e seen early ready picked is event counts told drained)
+    let chosen = chosen_so now.pace.rule now.core.plan now.pace.count now.core.state now.policy m picked in
+    chosen-leads round_pick round_on limit now core m (Some m) pace tally e seen early ready chosen (sym chosen) is event counts told drained
 
 -- unless it is Leave, the run goes on
-pub sweeping-kept : (limit : ℕ) (now new : RulePlace) → IsSweeping limit now → SweepsTo limit silent now new → Keeps now.core.state new.core.state →
-    IsSweeping limit new
+pub sweeping-kept : {P : Type 0} {picked : P → List Move → ℕ} {onward : P → List Move → P} (limit : ℕ) (now new : PolicyPlace P) →
+    IsUnderWay picked onward limit now → LeadsTo picked onward limit silent now new → Keeps now.core.state new.core.state →
+    IsUnderWay picked onward limit new
 sweeping-kept limit now new ready swept keeps =
     let below = ready.goes.below in
     let retired = keeps.retired in
     sweeping-on limit now new ready swept (record { unended = keeps.ending ∙ ready.goes.unended; below = omega (arith, below, retired) })
 
 -- the count of a pace has stopped where it stops
-count-stops : (limit : ℕ) (show : Reporting) (at : RulePlace) → HasCome limit show at → stopped at.pace.stages at.pace.count ≡ at.pace.count
+count-stops : {P : Type 0} {picked : P → List Move → ℕ} {onward : P → List Move → P} (limit : ℕ) (show : Reporting) (at : PolicyPlace P) →
+    HasArrived picked onward limit show at → stopped at.pace.stages at.pace.count ≡ at.pace.count
 count-stops limit show at h =
     let begin = h.begin.core.plan.stages in
     let same : at.pace.stages ≡ begin = h.stages ∙ ap (λ (p : Plan). p.stages) (same_plan limit show at h) in
@@ -446,16 +478,28 @@ count-stops limit show at h =
     let counted = h.comes.count_is in
     min-eq_left (omega (arith, most, counted, same))
 
--- the pace is unchanged by a move by which nothing enters at the bottom or leaves
-pub within-sweeps : (limit : ℕ) (now : RulePlace) (core : Processor) (m : Move) (tally : Tally) (e : Event) → 1 ≤ kind_place m → kind_place m ≤ 10 →
-    IsSweeping limit now → PicksNext now.pace now.core now.last m → core ≡ after_move now.core m → IsEvent now.core.plan now.core.state m e →
-    tally ≡ counted_event now.tally m e → SweepsTo limit silent now (rule_at core (Some m) now.pace tally)
-within-sweeps limit now core m tally e after before ready picked is event counts =
+-- the pace is unchanged by a choice by which nothing enters at the bottom or leaves
+pub chosen-within : {P : Type 0} (picked : P → List Move → ℕ) (onward : P → List Move → P) (limit : ℕ) (now : PolicyPlace P) (core : Processor) (m : Move)
+    (later : P) (tally : Tally) (e : Event) → 1 ≤ kind_place m → kind_place m ≤ 10 →
+    IsUnderWay picked onward limit now → choice picked now.core.plan (chooser now.pace.rule now.policy now.pace.count) now.core.state ≡ Some m →
+    later ≡ onward now.policy (offered_by now.pace.rule now.core.plan now.pace.count now.core.state) → core ≡ after_move now.core m →
+    IsEvent now.core.plan now.core.state m e → tally ≡ counted_event now.tally m e →
+    LeadsTo picked onward limit silent now (policy_at core later now.pace tally)
+chosen-within picked onward limit now core m later tally e after before ready chosen goes_to is event counts =
     let plan = now.core.plan in
-    let free = picked_free now.pace.rule plan now.pace.count now.core.state now.last m picked in
-    picked-sweeps limit now core m now.pace tally e (is_drained (moved plan now.core.state m)) (omega (arith, before)) ready picked is event counts
+    let free = ruled-allowed now.pace.rule plan now.pace.count now.core.state _ m chosen in
+    chosen-leads picked onward limit now core m later now.pace tally e (is_drained (moved plan now.core.state m)) (omega (arith, before)) ready chosen goes_to
+    is event counts
     (same-pace plan now.core.state now.pace m e after before free event (count-stops limit silent now ready.come))
     (ap (λ (p : Processor). is_drained p.state) (sym is))
+
+-- so it is by the rule's pick
+pub within-sweeps : (limit : ℕ) (now : RulePlace) (core : Processor) (m : Move) (tally : Tally) (e : Event) → 1 ≤ kind_place m →
+    kind_place m ≤ 10 → IsSweeping limit now → PicksNext now.pace now.core now.policy m → core ≡ after_move now.core m →
+    IsEvent now.core.plan now.core.state m e → tally ≡ counted_event now.tally m e → SweepsTo limit silent now (rule_at core (Some m) now.pace tally)
+within-sweeps limit now core m tally e after before ready picked is event counts =
+    let chosen = chosen_so now.pace.rule now.core.plan now.pace.count now.core.state now.policy m picked in
+    chosen-within round_pick round_on limit now core m (Some m) tally e after before ready chosen (sym chosen) is event counts
 
 -- What is picked next --
 
@@ -473,7 +517,7 @@ pub goes_on_from : (limit : ℕ) (part : Plan → State → List Move) (at : Rul
 goes_on_from limit part at from = goes_on_so limit at from.ready
 
 -- if no kind is left, only an Issue can come after the last pick
-pub picks_last : (limit : ℕ) (at : RulePlace) → SweepsFrom limit from_end at → IsLast at.core.plan at.core.state at.last
+pub picks_last : (limit : ℕ) (at : RulePlace) → SweepsFrom limit from_end at → IsLast at.core.plan at.core.state at.policy
 unfolding IsPickedFrom
 picks_last limit at from = from.picked.gone refl
 

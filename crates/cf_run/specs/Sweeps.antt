@@ -1,5 +1,5 @@
 -- Turns of a policy that lead from one place of a run to another, none of which stops it; and the sweeps of the rule, which picks one
--- move of a kind after another. A sweep uses neither stream and shows nothing, so what is said of it holds whatever these expose.
+-- move of a kind after another. They use neither stream and show nothing, so what is said of them holds whatever these expose.
 use Rattle.std.specs.Prelude.{◌≡◌, ◌≤◌, ℕ, zero, suc, List, None, Option, length, false}
 use Rattle.run_options.specs.Limits.{most_limit}
 use Rattle.run_options.specs.declared.guess_rule.GuessRule.{GuessRule}
@@ -42,61 +42,88 @@ pub record Keeps (s t : State) : Type 0 where
 abbrev pub silent : Reporting
 silent = record { show = shows.Report; every = None }
 
--- where a run by the rule has arrived, but for what its streams and its report expose: the processor, the last pick, the pace, and
+-- where a run by a policy has arrived, but for what its streams and its report expose: the processor, the policy, the pace, and
 -- what was counted
-pub record RulePlace : Type 0 where
+pub record PolicyPlace (P : Type 0) : Type 0 where
   pub core : Processor
-  pub last : Option Move
+  pub policy : P
   pub pace : PaceCount
   pub tally : Tally
 
+-- the PolicyPlace with these parts
+abbrev pub policy_at : {P : Type 0} → Processor → P → PaceCount → Tally → PolicyPlace P
+policy_at core policy pace tally = record { core = core; policy = policy; pace = pace; tally = tally }
+
+-- that of the rule, which keeps its last pick
+abbrev pub RulePlace : Type 0
+RulePlace = PolicyPlace (Option Move)
+
 -- the RulePlace with these parts
-abbrev pub rule_at : Processor → Option Move → PaceCount → Tally → RulePlace
-rule_at core last pace tally = record { core = core; last = last; pace = pace; tally = tally }
+abbrev pub rule_at : Processor → (last : Option Move) → PaceCount → Tally → RulePlace
+rule_at core last pace tally = policy_at core last pace tally
 
 -- the RunPlace where the streams and the report expose this
-abbrev pub exposing : RulePlace → Streams → Option (List ℕ) → RunPlace
+abbrev pub exposing : {P : Type 0} → PolicyPlace P → Streams → Option (List ℕ) → RunPlace
 exposing at streams report = run_place_of at.core streams report at.tally
 
--- one turn of the rule leads from one place to another, whatever the streams and the report expose, and it leaves these as they are
-pub record TurnsOnce (limit : ℕ) (show : Reporting) (now new : RulePlace) : Type 0 where
-  pub turned : (streams : Streams) (report : Option (List ℕ)) → Turned round_pick round_on limit show
+-- one turn of the policy leads from one place to another, whatever the streams and the report expose, and it leaves these as they are
+pub record TurnsOnce {P : Type 0} (picked : P → List Move → ℕ) (onward : P → List Move → P) (limit : ℕ) (show : Reporting)
+    (now new : PolicyPlace P) : Type 0 where
+  pub turned : (streams : Streams) (report : Option (List ℕ)) → Turned picked onward limit show
       (exposing now streams report)
       (exposing new streams report)
-      (chooser now.pace.rule now.last now.pace.count)
-      (chooser now.pace.rule new.last new.pace.count)
+      (chooser now.pace.rule now.policy now.pace.count)
+      (chooser now.pace.rule new.policy new.pace.count)
   pub rule : new.pace.rule ≡ now.pace.rule
   pub stages : new.pace.stages ≡ now.pace.stages
   pub works : new.core.state.failed ≡ now.core.state.failed
 
 -- this many turns do
-unfoldable pub TurnsTo : (limit : ℕ) → Reporting → ℕ → (now new : RulePlace) → Type 0
-TurnsTo limit show zero now new = new ≡ now
-TurnsTo limit show (suc n) now new = (between : RulePlace) × TurnsTo limit show n now between × TurnsOnce limit show between new
+unfoldable pub TurnsTo : {P : Type 0} → (picked : P → List Move → ℕ) → (onward : P → List Move → P) → (limit : ℕ) → Reporting → ℕ →
+    (now new : PolicyPlace P) →
+    Type 0
+TurnsTo picked onward limit show zero now new = new ≡ now
+TurnsTo {P} picked onward limit show (suc n) now new =
+    (between : PolicyPlace P) × TurnsTo picked onward limit show n now between × TurnsOnce picked onward limit show between new
 
 -- some turns do
-unfoldable pub SweepsTo : (limit : ℕ) → Reporting → (now new : RulePlace) → Type 0
-SweepsTo limit show now new = (n : ℕ) × TurnsTo limit show n now new
+pub record LeadsTo {P : Type 0} (picked : P → List Move → ℕ) (onward : P → List Move → P) (limit : ℕ) (show : Reporting)
+    (now new : PolicyPlace P) : Type 0 where
+  pub count : ℕ
+  pub turns : TurnsTo picked onward limit show count now new
 
--- a run by the rule that shows this has come here from an opened processor, over some streams and within a permitted limit
-pub record HasCome (limit : ℕ) (show : Reporting) (at : RulePlace) : Type 0 where
+-- some turns of the rule do
+abbrev pub SweepsTo : (limit : ℕ) → Reporting → (now new : RulePlace) → Type 0
+SweepsTo limit show now new = LeadsTo round_pick round_on limit show now new
+
+-- a run by a policy that shows this has arrived here from an opened processor, over some streams and within a permitted limit
+pub record HasArrived {P : Type 0} (picked : P → List Move → ℕ) (onward : P → List Move → P) (limit : ℕ) (show : Reporting)
+    (at : PolicyPlace P) : Type 0 where
   pub begin : RunPlace
-  pub first : Option Move
+  pub first : P
   pub accepted : IsAccepted begin.core.plan
   pub registers : length begin.core.state.regs ≡ 32
   pub opened : IsOpened begin.core
   pub streams : Streams
   pub report : Option (List ℕ)
-  pub comes : HasPicked at.pace.rule round_pick round_on limit show begin (exposing at streams report) first at.last at.pace.count
+  pub comes : HasPicked at.pace.rule picked onward limit show begin (exposing at streams report) first at.policy at.pace.count
   pub limit_allowed : limit ≤ most_limit
   pub within : at.core.state.retired ≤ limit
   pub stages : at.pace.stages ≡ at.core.plan.stages
 
--- a run by the rule that shows nothing has come here and goes on, and neither the input nor the output has failed
-pub record IsSweeping (limit : ℕ) (at : RulePlace) : Type 0 where
-  pub come : HasCome limit silent at
+-- a run by the rule has
+abbrev pub HasCome : (limit : ℕ) → Reporting → RulePlace → Type 0
+HasCome limit show at = HasArrived round_pick round_on limit show at
+
+-- a run by a policy that shows nothing has arrived here and goes on, and neither the input nor the output has failed
+pub record IsUnderWay {P : Type 0} (picked : P → List Move → ℕ) (onward : P → List Move → P) (limit : ℕ) (at : PolicyPlace P) : Type 0 where
+  pub come : HasArrived picked onward limit silent at
   pub goes : GoesOn limit at.core.state
   pub works : at.core.state.failed ≡ false
+
+-- a run by the rule has and does
+abbrev pub IsSweeping : (limit : ℕ) → RulePlace → Type 0
+IsSweeping limit at = IsUnderWay round_pick round_on limit at
 
 -- the rule picks the move after its last pick
 abbrev pub PicksNext : PaceCount → Processor → (last : Option Move) → Move → Type 0
@@ -109,7 +136,7 @@ PicksFrom pace core last part = IsPickedFrom pace.rule (is_held core.plan pace.c
 -- a sweep is here: the run goes on, and the rule picks the first move of this part next
 pub record SweepsFrom (limit : ℕ) (part : Plan → State → List Move) (at : RulePlace) : Type 0 where
   pub ready : IsSweeping limit at
-  pub picked : PicksFrom at.pace at.core at.last part
+  pub picked : PicksFrom at.pace at.core at.policy part
 
 -- a sweep leads from one place to another, where the rule picks the first move of this part next
 pub record SweepsOn (limit : ℕ) (part : Plan → State → List Move) (now new : RulePlace) : Type 0 where
