@@ -1,10 +1,11 @@
 -- The candidates of a small processor as the bits of two words, part by part.
 use Rattle.std.proofs.Common.{◌≡◌, ◌∙◌, sym, refl, ap, ℕ, zero, suc, ◌+◌, ◌-◌, ◌*◌, ◌/◌, ◌%◌, ◌^◌, ◌<◌, ◌≤◌, List, [], ◌∷◌, ◌++◌, length, map, append_assoc, append-nil, Bool, true, false, Some, nat_lt, arith}
-use Rattle.std.specs.Prelude.{◌&&◌, ◌||◌, filter, slice_get, if◌then◌else◌}
+use Rattle.std.specs.Prelude.{◌&&◌, ◌||◌, ◌==◌, filter, slice_get, if◌then◌else◌}
 use mir.Val.{bool_byte}
 use Rattle.std.proofs.Math.Nat.{pow-le-pow_right}
 use Rattle.std.proofs.lemmas.Bool.Decides.{nat_tests}
 use Rattle.std.specs.List.{list_any}
+use Rattle.std.proofs.lemmas.List.Folds.{list_any-append}
 use Rattle.std.proofs.lemmas.List.{length-append, length-map, map-append}
 use Rattle.std.proofs.lemmas.List.Elements.{filter-append}
 use Rattle.std.proofs.lemmas.Option.{slice_get-map}
@@ -23,7 +24,8 @@ use Rattle.cf_core.specs.Masks.{masks_of}
 use Rattle.cf_index.specs.declared.passing.Passing.{Passing}
 use Rattle.cf_index.specs.Allowed.{HasStages, all_leaving, all_passing, allowed_others, is_allowed, kept_issues, may_issue, passing_of, withheld, word_allowed}
 use Rattle.cf_index.specs.GuessRules.{guided, keeps_move}
-use Rattle.cf_index.specs.Listed.{at_word, flagged, passing_moves, slides_of}
+use Rattle.cf_index.specs.Listed.{at_word, flagged, passing_moves, slide_at, slides_of}
+use Rattle.cf_index.specs.Order.{is_slide}
 use Rattle.cf_index.specs.Packed.{FitsEight, packed_at, packed_from, packed_moves, packed_with}
 use Rattle.cf_index.specs.Places.{set_places}
 use Rattle.cf_index.proofs.AllowedWords.{passing-moves}
@@ -359,6 +361,64 @@ length_with w slides =
     omega (arith, whole, a, b, c, d, none)
 
 pub ruleset parting = (without_slides, length_with)
+
+-- Slides are among them where the second word is not 0
+no_slide : (b : Bool) (m n : Move) → is_slide m ≡ false → is_slide n ≡ false → is_slide (if b then m else n) ≡ false
+no_slide true m n e f = e
+no_slide false m n e f = f
+
+no_slide_at : (k : ℕ) → is_slide (packed_at k) ≡ false
+unfolding packed_at
+no_slide_at k =
+    let g = (k + 4) / 8 in
+    let i = (k + 4) % 8 + 1 in
+    let wait = no_slide (k == 2) (Issue Wait) Emit refl refl in
+    let taken = no_slide (k == 1) (Issue Taken) _ refl wait in
+    let enters = no_slide (k == 0) (Issue Next) _ refl taken in
+    let j = k - 52 in
+    let serve = no_slide (j == 11) Serve (Recover j) refl refl in
+    let exit = no_slide (j == 10) Exit _ refl serve in
+    let leave = no_slide (j == 9) Leave _ refl exit in
+    let leaves = no_slide (j == 0) Access _ refl leave in
+    let launch = no_slide (g == 6) (Launch i) _ refl leaves in
+    let send = no_slide (g == 5) (Send i) _ refl launch in
+    let execute = no_slide (g == 4) (Execute i) _ refl send in
+    let meet = no_slide (g == 3) (Meet i) _ refl execute in
+    let fall = no_slide (g == 2) (Fall i) _ refl meet in
+    let climb = no_slide (g == 1) (Climb i) _ refl fall in
+    no_slide (g == 0) _ _ enters climb
+
+none_slide : (ks : List ℕ) → list_any is_slide (map packed_at ks) ≡ false
+none_slide [] = refl
+none_slide (k ∷ ks) = rw (no_slide_at k) (none_slide ks)
+
+none_among : (w : ℕ) → list_any is_slide (packed_moves w) ≡ false
+unfolding packed_moves
+none_among w = none_slide (set_places 64 w)
+
+each_slides : (ks : List ℕ) → list_any is_slide (map slide_at ks) ≡ nat_lt 0 (length (map slide_at ks))
+each_slides [] = refl
+each_slides (k ∷ ks) = let e : nat_lt 0 (suc (length (map slide_at ks))) ≡ true = grind (arith, nat_tests) in sym e
+
+pub some_slide : (slides : ℕ) → slides < 2 ^ 64 → nat_lt 0 slides ≡ list_any is_slide (slides_of slides)
+unfolding slides_of
+some_slide slides small = any_slides slides (slides_of slides) small refl ∙ sym (each_slides (set_places 64 slides))
+
+pub slides_among : (w slides : ℕ) → list_any is_slide (slides_of slides) ≡ list_any is_slide (packed_with w slides)
+unfolding packed_with
+slides_among w slides =
+    let low = packed_moves (w % 2 ^ 52) in
+    let high = packed_moves (w - w % 2 ^ 52) in
+    rw (
+      list_any-append is_slide low (slides_of slides ++ high),
+      list_any-append is_slide (slides_of slides) high,
+      none_among (w % 2 ^ 52),
+      none_among (w - w % 2 ^ 52),
+    ) (sym (or_none (list_any is_slide (slides_of slides))))
+  where
+    or_none : (b : Bool) → (b || false) ≡ b
+    or_none true = refl
+    or_none false = refl
 
 -- what is offered is both, after the Issues
 either_some : (a b c : ℕ) → (nat_lt 0 (a + c) || nat_lt 0 b) ≡ nat_lt 0 (a + (b + c))

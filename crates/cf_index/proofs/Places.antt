@@ -8,7 +8,7 @@ use mir.Syntax.{w64}
 use Rattle.cf_layout.proofs.Words.{no_bits}
 use Rattle.std.proofs.lemmas.Nat.{ones_cat, shr_split, shr-shr, shr_below, and_block, and_mask, one_shl, mod_below, pow_pos}
 use Rattle.std.proofs.lemmas.Nat.Bits.{bit_at_cat_low, bit_at-trailing_zeros}
-use Rattle.std.proofs.lemmas.List.{length-append, length-map, append-nil, length-drop, drop-drop, drop-map}
+use Rattle.std.proofs.lemmas.List.{length-append, length-map, append-nil, length-drop, drop-map}
 use Rattle.std.proofs.lemmas.List.Elements.{filter-append}
 use Rattle.std.proofs.lemmas.List.Filters.{length-filter_both}
 use Rattle.cf_layout.specs.Words.{has_bit}
@@ -161,30 +161,34 @@ pub some_place : (n w : ℕ) → 0 < length (set_places n w) → 0 < w
 some_place n zero some = let e = rw (places_zero n) at some in absurd (omega (arith, e))
 some_place n (suc w) some = omega arith
 
-pub some_left : (w rest i : ℕ) → i < length (set_places 64 w) → set_places 64 rest ≡ drop i (set_places 64 w) → 1 ≤ rest
-some_left w rest i more e = let l = ap length e ∙ length-drop i (set_places 64 w) in some_place 64 rest (omega arith)
+pub some_left : (rest left : ℕ) → left < length (set_places 64 rest) → 1 ≤ rest
+some_left rest left more = some_place 64 rest (omega (arith, more))
 
--- the first number that is left
-first_left : (i : ℕ) (xs : List ℕ) → slice_get (drop i xs) 0 ≡ slice_get xs i
-first_left zero xs = refl
-first_left (suc i) [] = refl
-first_left (suc i) (x ∷ xs) = first_left i xs
+-- without its lowest number a word has one number less
+pub fewer_left : (rest left : ℕ) → rest < 2 ^ 64 → 0 < left → left < length (set_places 64 rest) →
+    left - 1 < length (set_places 64 (bit_and rest (rest - 1)))
+fewer_left rest left small some more =
+    let l = ap length (cleared 64 rest (some_left rest left more) small) ∙ length-drop 1 (set_places 64 rest) in
+    omega (arith, l, some, more)
 
--- without its lowest number the word that is left has the numbers after the first i + 1
-pub one_passed : (w rest i : ℕ) → rest < 2 ^ 64 → i < length (set_places 64 w) → set_places 64 rest ≡ drop i (set_places 64 w) →
-    set_places 64 (bit_and rest (rest - 1)) ≡ drop (i + 1) (set_places 64 w)
-one_passed w rest i small more e =
-    let l = ap length e ∙ length-drop i (set_places 64 w) in
-    let some : 0 < rest = some_place 64 rest (omega arith) in
-    cleared 64 rest some small ∙ rw e (drop-drop 1 i (set_places 64 w))
+-- and each of the others one place earlier
+one_earlier : (k : ℕ) (xs : List ℕ) → slice_get (drop 1 xs) k ≡ slice_get xs (suc k)
+one_earlier k [] = refl
+one_earlier k (x ∷ xs) = refl
 
--- the lowest number that is left is the next one
-pub next_place : (w rest i : ℕ) → rest < 2 ^ 64 → i < length (set_places 64 w) → set_places 64 rest ≡ drop i (set_places 64 w) →
-    Some (trailing_zeros w64 rest) ≡ slice_get (set_places 64 w) i
-next_place w rest i small more e =
-    let l = ap length e ∙ length-drop i (set_places 64 w) in
-    let some : 0 < rest = some_place 64 rest (omega arith) in
-    sym (lowest rest some small) ∙ rw e (first_left i (set_places 64 w))
+pub next_left : (rest left : ℕ) → rest < 2 ^ 64 → 0 < left → left < length (set_places 64 rest) →
+    slice_get (set_places 64 (bit_and rest (rest - 1))) (left - 1) ≡ slice_get (set_places 64 rest) left
+next_left rest zero small some more = absurd (omega (arith, some))
+next_left rest (suc left) small some more =
+    let e : suc left - 1 ≡ left = omega arith in
+    rw (cleared 64 rest (some_left rest (suc left) more) small, e) (one_earlier left (set_places 64 rest))
+
+-- the lowest number is the first
+pub lowest_left : (rest : ℕ) → rest < 2 ^ 64 → 0 < length (set_places 64 rest) → Some (trailing_zeros w64 rest) ≡ slice_get (set_places 64 rest) 0
+lowest_left rest small some = sym (lowest rest (some_left rest 0 some) small)
+
+pub lowest_within : (rest : ℕ) → rest < 2 ^ 64 → 0 < length (set_places 64 rest) → trailing_zeros w64 rest < 64
+lowest_within rest small some = (bit_at-trailing_zeros w64 rest (some_left rest 0 some) small).0
 
 -- there are at most as many numbers as the width
 most_choice : (b : Bool) (k n : ℕ) (xs : List ℕ) → length xs ≤ n → length (cond b (k ∷ xs) xs) ≤ suc n
@@ -201,7 +205,3 @@ most_places w = most_kept (has_bit w) 0 64
 
 pub most_below : (w k : ℕ) → length (filter (λ j. nat_lt j k) (set_places 64 w)) ≤ most_of_kind
 most_below w k = omega (arith, length-filter_both (λ j. nat_lt j k) (λ j. not (nat_lt j k)) (λ j. refl) (set_places 64 w), most_places w)
-
--- the next number is below the width
-pub next_within : (w rest i : ℕ) → rest < 2 ^ 64 → i < length (set_places 64 w) → set_places 64 rest ≡ drop i (set_places 64 w) → trailing_zeros w64 rest < 64
-next_within w rest i small more e = (bit_at-trailing_zeros w64 rest (some_left w rest i more e) small).0

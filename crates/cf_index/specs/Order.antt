@@ -32,6 +32,10 @@ kind_place Leave = leave_place
 kind_place Exit = 12
 kind_place Serve = 13
 
+-- a move within a siding
+abbrev pub is_slide : Move → Bool
+is_slide mv = nat_eq (kind_place mv) slide_place
+
 -- the place of a guess among the guesses
 abbrev pub guess_place : Guess → ℕ
 guess_place Next = 0

@@ -60,19 +60,20 @@ pub fn lowest_stage(word: u32) -> Option<u32>
 
 /// The i-th of its numbers, counted from 0.
 #[inline(always)]
-#[tactic(auto, using(crate::proofs::Places::some_left, crate::proofs::Places::one_passed, crate::proofs::Places::next_place, crate::proofs::Places::next_within))]
 pub(crate) fn nth(word: u64, i: usize) -> u32
     requires { i < length (set_places 64 word) }
     ensures number { Some result ≡ slice_get (set_places 64 word) i }
     ensures within { result < 64 }
 {
     let mut rest = word;
-    for _passed in 0..i {
+    let mut left = i;
+    while left > 0 {
+        rest &= rest - 1;
         // This is never so. Without the test the loop, which has few turns, would be unrolled.
         if rest == 0 {
             return 0;
         }
-        rest &= rest - 1;
+        left -= 1;
     }
     rest.trailing_zeros()
 }

@@ -5,6 +5,7 @@ ghost use Rattle.cf_semantics.specs.moves.Candidates.{candidates, slides_from};
 ghost use Rattle.cf_core.specs.Masks.{masks_of};
 ghost use Rattle.cf_index.specs.Allowed.{all_entering, all_leaving, all_passing, is_allowed, passing_of, withheld};
 ghost use Rattle.cf_index.specs.GuessRules.{guided, keeps_move};
+ghost use Rattle.cf_index.specs.Words.{goes_on as is_going};
 ghost use Rattle.cf_index.specs.Listed.{entering_moves, leaving_moves, passing_moves, slides_of};
 
 use crate::candidates::Candidates;
@@ -13,7 +14,9 @@ use crate::guiding::guided;
 use crate::idle::accesses;
 use crate::leaving::Leaving;
 use crate::passing::Passing;
-use crate::stages::{climbs, executes, falls, goes_on, know_stages, launches, meets, sends};
+use crate::stages::{
+    climbs_among, executes, falls, goes_on, know_stages, launches, meets, sends, stages,
+};
 use cf_core::{Core, Masks};
 use run_options::GuessRule;
 
@@ -41,15 +44,16 @@ fn entering(core: &Core, rule: GuessRule) -> Entering
     }
 }
 
-/// The words of the candidates within the stages.
+/// The words of the candidates within the stages, given the number of stages and whether the processor goes on.
 #[inline(always)]
-pub(crate) fn passing_words(core: &Core, masks: &Masks) -> Passing
-    requires { masks.now ≡ masks_of core.now.plan core.now.state }
+pub(crate) fn passing_words(core: &Core, masks: &Masks, stages: u32, on: bool) -> Passing
+    requires stages { stages ≡ core.now.plan.stages }
+    requires on { on ≡ is_going core.now.state }
+    requires masks { masks.now ≡ masks_of core.now.plan core.now.state }
     ensures { result ≡ passing_of core.now.plan core.now.state }
 {
-    let on = goes_on(core);
     Passing {
-        climb: climbs(core, masks, on),
+        climb: climbs_among(core, masks, stages, on),
         fall: falls(core, masks, on),
         meet: meets(core, masks, on),
         execute: executes(core, masks),
@@ -64,8 +68,7 @@ pub(crate) fn passing(core: &Core, masks: &Masks) -> Passing
     requires { masks.now ≡ masks_of core.now.plan core.now.state }
     ensures { passing_moves result ≡ filter (is_allowed core.now.plan core.now.state) (all_passing core.now.plan) }
 {
-    know_stages(core);
-    passing_words(core, masks)
+    passing_words(core, masks, stages(core), goes_on(core))
 }
 
 /// The candidates by which something leaves.

@@ -6,11 +6,11 @@ ghost use Rattle.cf_bind.specs.declared.passenger.Guess.TheVariants as guess;
 ghost use Rattle.cf_layout.specs.Accepted.{is_control};
 ghost use Rattle.cf_semantics.specs.moves.Instructions.{is_indirect, kind_of};
 ghost use Rattle.cf_index.specs.Allowed.{is_allowed, may_issue};
+ghost use Rattle.cf_index.specs.Words.{goes_on as is_going};
 ghost use Rattle.cf_index.specs.GuessRules.{guess_at, guess_back, guess_of, is_guess};
 ghost use Rattle.run_options.specs.declared.guess_rule.GuessRule.TheVariants as rules;
 
 use crate::plainly::issues_any;
-use crate::stages::goes_on;
 use cf_bind::{Fetch, Guess};
 use cf_core::{Core, Issuable};
 use run_options::GuessRule;
@@ -201,16 +201,17 @@ fn issuable_by_kind(core: &Core) -> Issuable
 }
 
 /// The guesses, other than an address, that an instruction can be issued with now and that the rule keeps, as `guided`
-/// has them. Where the lane has room for whatever an instruction requests, and the rule keeps every guess, the
-/// instruction is not put together.
+/// has them, given whether the processor goes on. Where the lane has room for whatever an instruction requests, and the rule
+/// keeps every guess, the instruction is not put together.
 #[inline(always)]
 #[tactic(auto, using(crate::proofs::Guided::any_kept))]
-pub(crate) fn guided_by_kind(core: &Core, rule: GuessRule) -> Issuable
+pub(crate) fn guided_by_kind(core: &Core, rule: GuessRule, on: bool) -> Issuable
+    requires { on ≡ is_going core.now.state }
     ensures next { result.next ≡ may_issue rule core.now.plan core.now.state guess.Next }
     ensures taken { result.taken ≡ may_issue rule core.now.plan core.now.state guess.Taken }
     ensures wait { result.wait ≡ may_issue rule core.now.plan core.now.state guess.Wait }
 {
-    if is_any(rule) && issues_any(core, goes_on(core)) {
+    if is_any(rule) && issues_any(core, on) {
         issuable_by_kind(core)
     } else {
         guided(core, rule)

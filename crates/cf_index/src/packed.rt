@@ -1,7 +1,9 @@
 //! The candidates of a small processor, in two words.
 
+ghost use Rattle.std.specs.List.{list_any};
 ghost use Rattle.std.specs.Prelude.{◌≡◌, ℕ, ◌+◌, ◌-◌, ◌*◌, ◌/◌, ◌%◌, ◌^◌, ◌<◌, ◌≤◌, Some, length, slice_get};
 ghost use Rattle.cf_index.specs.Listed.{slides_of};
+ghost use Rattle.cf_index.specs.Order.{is_slide};
 ghost use Rattle.cf_index.specs.Packed.{entering_at, leaving_at, packed_at, packed_moves};
 
 use crate::bits::{count, nth};
@@ -43,17 +45,29 @@ fn entering(place: u32) -> Move
     }
 }
 
-/// The move of one of the highest twelve bits, counted from the lowest of them.
+/// The move of one of the bits 52 to 59, counted from the lowest of them.
 #[inline(always)]
-fn leaving(place: u32) -> Move
+fn recovering(place: u32) -> Move
+    requires { place < 8 }
     ensures { result ≡ leaving_at place }
 {
     match place {
         0 => Move::Access,
-        9 => Move::Leave,
-        10 => Move::Exit,
-        11 => Move::Serve,
         i => Move::Recover(i),
+    }
+}
+
+/// The move of one of the highest four bits, counted from the lowest of them.
+#[inline(always)]
+fn leaving(place: u32) -> Move
+    requires { place < 4 }
+    ensures { result ≡ leaving_at (8 + place) }
+{
+    match place {
+        0 => Move::Recover(8),
+        1 => Move::Leave,
+        2 => Move::Exit,
+        _ => Move::Serve,
     }
 }
 
@@ -73,7 +87,9 @@ fn unpacked(place: u32) -> Move
         4 => Move::Execute(stage),
         5 => Move::Send(stage),
         6 => Move::Launch(stage),
-        _ => leaving(place - 52),
+        7 => recovering(place - 52),
+        8 => leaving(place - 60),
+        _ => unreachable!(),
     }
 }
 
@@ -106,6 +122,15 @@ fn count_slides(slides: u64) -> usize
     count(slides)
 }
 
+/// Whether a word has Slides.
+#[inline(always)]
+#[tactic(auto, using(crate::proofs::PackedWords::some_slide))]
+fn are_some(slides: u64) -> bool
+    ensures { result ≡ list_any is_slide (slides_of slides) }
+{
+    0 < slides
+}
+
 /// The Slide of a word at this place, counted from 0.
 #[inline(always)]
 fn nth_slide(slides: u64, i: usize) -> Move
@@ -117,6 +142,14 @@ fn nth_slide(slides: u64, i: usize) -> Move
 }
 
 impl PackedCandidates {
+    /// Whether there are Slides among them.
+    #[inline(always)]
+    pub fn has_slides(&self) -> bool
+        ensures { result ≡ list_any is_slide self.now }
+    {
+        are_some(self.slides)
+    }
+
     /// How many there are.
     #[inline(always)]
     #[tactic(auto, using(crate::proofs::PackedWords::parting))]

@@ -19,7 +19,7 @@ use crate::guiding::guided_by_kind;
 use crate::idle::are_empty;
 use crate::packed::PackedCandidates;
 use crate::passing::Passing;
-use crate::pipe_ends::{emits, end_bits};
+use crate::pipe_ends::{emits_among, end_bits, serves_among};
 use crate::plainly::is_lowest_free;
 use crate::stages::{goes_on, stages};
 use cf_core::{Core, Masks};
@@ -59,18 +59,21 @@ fn passing_then(passing: &Passing, rest: u64) -> u64
     eight_then(passing.climb, eight_then(passing.fall, meets))
 }
 
-/// The bits of the moves by which something leaves, given whether it is known that the sidings are empty.
+/// The bits of the moves by which something leaves, given the number of stages, whether Serve is allowed, and whether it is known
+/// that the sidings are empty.
 // Where they are, neither Access nor a Recover is allowed.
 #[inline(always)]
-fn leaving_bits(core: &Core, masks: &Masks, idle: bool) -> u64
+fn leaving_bits(core: &Core, stages: u32, serve: bool, idle: bool) -> u64
+    requires stages { stages ≡ core.now.plan.stages }
+    requires serve { serve ≡ is_allowed core.now.plan core.now.state mv.Serve }
     requires few { core.now.plan.stages ≤ 8 }
     requires on { is_going core.now.state ≡ true }
-    requires masks { masks.now ≡ masks_of core.now.plan core.now.state }
     requires idle { idle ≡ true → (k : ℕ) → list_any is_some (siding_at core.now.state k) ≡ false }
     ensures moves { packed_from 52 12 result ≡ filter (is_allowed core.now.plan core.now.state) (all_leaving core.now.plan) }
     ensures bits { result < 2 ^ 12 }
 {
-    let ends = end_bits(core, masks);
+    let masks = core.open_masks();
+    let ends = end_bits(core, &masks, stages, serve);
     if idle {
         512 * ends
     } else {
@@ -79,43 +82,48 @@ fn leaving_bits(core: &Core, masks: &Masks, idle: bool) -> u64
     }
 }
 
-/// The bits of all candidates but Issue and Slide, given whether it is known that the sidings are empty.
+/// The bits of all candidates but Issue and Slide, given the number of stages and the bits of those by which something leaves.
+// The masks are read here once more, since those that only these moves need would otherwise be kept until now.
 #[inline(always)]
-fn others(core: &Core, idle: bool) -> u64
+fn others(core: &Core, stages: u32, leaves: u64) -> u64
+    requires stages { stages ≡ core.now.plan.stages }
     requires few { core.now.plan.stages ≤ 8 }
     requires on { is_going core.now.state ≡ true }
-    requires idle { idle ≡ true → (k : ℕ) → list_any is_some (siding_at core.now.state k) ≡ false }
+    requires leaves { packed_from 52 12 leaves ≡ filter (is_allowed core.now.plan core.now.state) (all_leaving core.now.plan) }
+    requires bits { leaves < 2 ^ 12 }
     ensures stages { packed_from 3 49 (result % 2 ^ 49) ≡ filter (is_allowed core.now.plan core.now.state) (mv.Emit ∷ []) ++ filter (is_allowed core.now.plan core.now.state) (all_passing core.now.plan) }
     ensures leaving { packed_from 52 12 (result / 2 ^ 49) ≡ filter (is_allowed core.now.plan core.now.state) (all_leaving core.now.plan) }
     ensures bits { result < 2 ^ 61 }
 {
-    let masks = core.masks();
-    let leaves = leaving_bits(core, &masks, idle);
-    let passes = passing_then(&passing_words(core, &masks), leaves);
-    flag_then(emits(core, &masks), passes)
+    let masks = core.open_masks();
+    let passes = passing_then(&passing_words(core, &masks, stages, true), leaves);
+    flag_then(emits_among(core, &masks, stages), passes)
 }
 
 /// The bits of each Issue that the guess rule keeps.
 #[inline(always)]
 fn issues(core: &Core, rule: GuessRule) -> u64
+    requires { is_going core.now.state ≡ true }
     ensures moves { packed_from 0 3 result ≡ kept_issues rule core.now.plan core.now.state }
+    ensures bits { result < 8 }
+{
+    let issuable = guided_by_kind(core, rule, true);
+    let wait = flag_then(issuable.taken, issuable.wait as u64);
+    flag_then(issuable.next, wait)
+}
+
+/// The same; none where Issue is held back and there are other candidates, whose words are given.
+// Mostly the lowest stage has an instruction, and nothing else is asked then.
+#[inline(always)]
+fn unheld_issues(core: &Core, rule: GuessRule, held: bool, others: u64, slides: u64) -> u64
+    requires { is_going core.now.state ≡ true }
+    ensures moves { packed_from 0 3 result ≡ (if held && (nat_lt 0 others || nat_lt 0 slides) then [] else kept_issues rule core.now.plan core.now.state) }
     ensures bits { result < 8 }
 {
     if !is_lowest_free(core) {
         return 0;
     }
-    let issuable = guided_by_kind(core, rule);
-    let wait = flag_then(issuable.taken, issuable.wait as u64);
-    flag_then(issuable.next, wait)
-}
-
-/// The same; none where Issue is held back and there are other candidates.
-#[inline(always)]
-fn unheld_issues(core: &Core, rule: GuessRule, held: bool, others: bool) -> u64
-    ensures moves { packed_from 0 3 result ≡ (if held && others then [] else kept_issues rule core.now.plan core.now.state) }
-    ensures bits { result < 8 }
-{
-    if held && others {
+    if held && is_any(others, slides) {
         0
     } else {
         issues(core, rule)
@@ -140,6 +148,43 @@ fn is_any(word: u64, other: u64) -> bool
 }
 
 impl PackedCandidates {
+    /// Whether Serve is allowed in a processor that is known to go on, given its number of stages.
+    #[inline(always)]
+    pub fn may_serve(core: &Core, stages: u32) -> bool
+        requires stages { stages ≡ core.now.plan.stages }
+        requires on { is_going core.now.state ≡ true }
+        ensures { result ≡ is_allowed core.now.plan core.now.state mv.Serve }
+    {
+        serves_among(core, stages)
+    }
+
+    /// The moves that are allowed now, of a processor that is known to go on, and that the guess rule keeps, with Issue held back
+    /// or not. The number of stages is given, and whether Serve is allowed.
+    #[inline(always)]
+    pub fn open(
+        core: &Core,
+        stages: u32,
+        serve: bool,
+        rule: GuessRule,
+        held: bool,
+    ) -> PackedCandidates
+        requires stages { stages ≡ core.now.plan.stages }
+        requires few { stages ≤ 8 }
+        requires on { is_going core.now.state ≡ true }
+        requires serve { serve ≡ is_allowed core.now.plan core.now.state mv.Serve }
+        ensures { result ≡ withheld held (guided_moves rule core.now.plan core.now.state) }
+    {
+        let idle = are_empty(core);
+        let leaves = leaving_bits(core, stages, serve, idle);
+        let slides = slides_unless(core, idle);
+        let others = others(core, stages, leaves);
+        let issues = unheld_issues(core, rule, held, others, slides);
+        PackedCandidates {
+            word: issues + 8 * others,
+            slides,
+        }
+    }
+
     /// The moves that are allowed now and that the guess rule keeps, with Issue held back or not. There is no answer
     /// where the processor does not go on, or its layout has more than eight stages.
     #[inline(always)]
@@ -147,16 +192,11 @@ impl PackedCandidates {
         ensures offered { IfSome result (λ packed. packed ≡ withheld held (guided_moves rule core.now.plan core.now.state)) }
         ensures fits { result ≡ None → is_going core.now.state ≡ true → core.now.plan.stages ≤ 8 → ⊥ }
     {
-        if !goes_on(core) || 8 < stages(core) {
+        let stages = stages(core);
+        if !goes_on(core) || 8 < stages {
             return None;
         }
-        let idle = are_empty(core);
-        let others = others(core, idle);
-        let slides = slides_unless(core, idle);
-        let issues = unheld_issues(core, rule, held, is_any(others, slides));
-        Some(PackedCandidates {
-            word: issues + 8 * others,
-            slides,
-        })
+        let serve = serves_among(core, stages);
+        Some(PackedCandidates::open(core, stages, serve, rule, held))
     }
 }

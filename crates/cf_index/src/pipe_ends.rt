@@ -26,12 +26,26 @@ pub enum AtTop {
     Stays,
 }
 
-/// Whether the word has the bit of the highest stage.
+/// Whether the word has the bit of the highest of the stages.
 #[inline(always)]
-fn has_top(core: &Core, word: u32) -> bool
+fn has_top(core: &Core, stages: u32, word: u32) -> bool
+    requires stages { stages ≡ core.now.plan.stages }
     ensures { result ≡ is_bit_set word (core.now.plan.stages - 1) }
 {
-    has_bit(word, stages(core))
+    know_stages(core);
+    has_bit(word, stages)
+}
+
+/// Whether Emit is allowed, given the number of stages.
+#[inline(always)]
+pub(crate) fn emits_among(core: &Core, masks: &Masks, stages: u32) -> bool
+    requires stages { stages ≡ core.now.plan.stages }
+    requires on { goes_on core.now.state ≡ true }
+    requires masks { masks.now ≡ masks_of core.now.plan core.now.state }
+    ensures { result ≡ is_allowed core.now.plan core.now.state mv.Emit }
+{
+    know_stages(core);
+    core.lane_len() != 0 && !has_top(core, stages, masks.packets)
 }
 
 /// Whether Emit is allowed.
@@ -41,8 +55,33 @@ pub(crate) fn emits(core: &Core, masks: &Masks) -> bool
     requires masks { masks.now ≡ masks_of core.now.plan core.now.state }
     ensures { result ≡ is_allowed core.now.plan core.now.state mv.Emit }
 {
+    emits_among(core, masks, stages(core))
+}
+
+/// Whether Leave is allowed, given the number of stages.
+// What the instruction of the highest stage has done is looked at only where there is one.
+#[inline(always)]
+fn leaves_among(core: &Core, masks: &Masks, stages: u32) -> bool
+    requires stages { stages ≡ core.now.plan.stages }
+    requires on { goes_on core.now.state ≡ true }
+    requires masks { masks.now ≡ masks_of core.now.plan core.now.state }
+    ensures { result ≡ is_allowed core.now.plan core.now.state mv.Leave }
+{
     know_stages(core);
-    core.lane_len() != 0 && !has_top(core, masks.packets)
+    has_top(core, stages, masks.passengers) && core.open_leave()
+}
+
+/// Whether Serve is allowed, given the number of stages.
+// The instruction of the highest stage is looked at only where there is one.
+#[inline(always)]
+pub(crate) fn serves_among(core: &Core, stages: u32) -> bool
+    requires stages { stages ≡ core.now.plan.stages }
+    requires on { goes_on core.now.state ≡ true }
+    ensures { result ≡ is_allowed core.now.plan core.now.state mv.Serve }
+{
+    know_stages(core);
+    let masks = core.open_masks();
+    has_top(core, stages, masks.passengers) && core.may_serve()
 }
 
 /// Whether Exit is allowed.
@@ -65,7 +104,7 @@ pub(crate) fn top(core: &Core, masks: &Masks) -> AtTop
     ensures { result ≡ at_top core.now.plan core.now.state }
 {
     know_stages(core);
-    if !has_top(core, masks.passengers) {
+    if !has_top(core, stages(core), masks.passengers) {
         AtTop::Stays
     } else if core.open_leave() {
         AtTop::Leaves
@@ -76,21 +115,17 @@ pub(crate) fn top(core: &Core, masks: &Masks) -> AtTop
     }
 }
 
-/// The bits of Leave, Exit and Serve.
+/// The bits of Leave, Exit and Serve, given the number of stages and whether Serve is allowed.
 #[inline(always)]
-pub(crate) fn end_bits(core: &Core, masks: &Masks) -> u64
+pub(crate) fn end_bits(core: &Core, masks: &Masks, stages: u32, serve: bool) -> u64
+    requires stages { stages ≡ core.now.plan.stages }
+    requires serve { serve ≡ is_allowed core.now.plan core.now.state mv.Serve }
     requires on { goes_on core.now.state ≡ true }
     requires masks { masks.now ≡ masks_of core.now.plan core.now.state }
     ensures moves { packed_from 61 3 result ≡ filter (is_allowed core.now.plan core.now.state) (mv.Leave ∷ mv.Exit ∷ mv.Serve ∷ []) }
     ensures bits { result < 8 }
 {
-    know_stages(core);
+    let leave = leaves_among(core, masks, stages);
     let exit = exits(core, masks);
-    if has_top(core, masks.passengers) {
-        let leave = core.open_leave();
-        let serve = core.may_serve();
-        flag_then(leave, flag_then(exit, serve as u64))
-    } else {
-        flag_then(false, exit as u64)
-    }
+    flag_then(leave, flag_then(exit, serve as u64))
 }

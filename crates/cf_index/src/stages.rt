@@ -49,6 +49,18 @@ pub(crate) fn know_stages(core: &Core)
     let _stages = stages(core);
 }
 
+/// Where Climb is allowed, given the number of stages and whether the processor goes on.
+#[inline(always)]
+pub(crate) fn climbs_among(core: &Core, masks: &Masks, stages: u32, on: bool) -> u32
+    requires stages { stages ≡ core.now.plan.stages }
+    requires on { on ≡ goes_on core.now.state }
+    requires masks { masks.now ≡ masks_of core.now.plan core.now.state }
+    ensures { result ≡ (passing_of core.now.plan core.now.state).climb }
+{
+    know_stages(core);
+    where_on(core, on, climbing(masks, stages))
+}
+
 /// Where Climb is allowed, given whether the processor goes on.
 #[inline(always)]
 pub(crate) fn climbs(core: &Core, masks: &Masks, on: bool) -> u32
@@ -56,7 +68,7 @@ pub(crate) fn climbs(core: &Core, masks: &Masks, on: bool) -> u32
     requires masks { masks.now ≡ masks_of core.now.plan core.now.state }
     ensures { result ≡ (passing_of core.now.plan core.now.state).climb }
 {
-    where_on(core, on, climbing(masks, stages(core)))
+    climbs_among(core, masks, stages(core), on)
 }
 
 /// Where Fall is allowed, given whether the processor goes on.

@@ -47,6 +47,16 @@ impl Drawn {
         self.generator.next_word()
     }
 
+    /// Picks one of these candidates.
+    #[inline(always)]
+    pub fn pick_packed(&mut self, packed: &PackedCandidates) -> Move
+        requires { 0 < length packed.now }
+        ensures choice { Some result ≡ slice_get packed.now (drawn_pick self.old packed.now) }
+        ensures onward { self.new ≡ drawn_on self.old }
+    {
+        packed.pick(self.draw() as usize % packed.len())
+    }
+
     /// Picks one of the moves that a processor offers, from the list of all.
     #[inline(always)]
     fn choose_of_all(&mut self, core: &Core, pace: &Pace) -> Move
@@ -74,7 +84,7 @@ impl Policy for Drawn {
     #[inline(always)]
     fn choose(&mut self, core: &Core, _candidates: &mut Candidates, pace: &Pace) -> Move {
         match PackedCandidates::of(core, pace.rule(), pace.held()) {
-            Some(packed) => packed.pick(self.draw() as usize % packed.len()),
+            Some(packed) => self.pick_packed(&packed),
             None => self.choose_of_all(core, pace),
         }
     }

@@ -8,5 +8,7 @@ pub returns : goal.returns
 returns c =
     let plan = c.args.core.now.plan in
     let s = c.args.core.now.state in
-    let few : plan.stages ≤ 32 = c.know_stages.ensures.few in
+    let count = c.stages.ensures.stages in
+    let most = c.stages.ensures.few in
+    let few : plan.stages ≤ 32 = omega (arith, count, most) in
     ap passing_moves c.passing_words.ensures ∙ passing-moves plan s few

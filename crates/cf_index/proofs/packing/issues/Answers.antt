@@ -1,9 +1,7 @@
-use Rattle.std.proofs.Common.{◌≡◌, ◌∙◌, ◌+◌, ◌*◌, ap, ℕ, false, refl, sym, true}
-use Rattle.std.specs.Prelude.{not}
+use Rattle.std.proofs.Common.{◌∙◌, ◌+◌, ◌*◌, ap, ℕ}
 use mir.Val.{bool_byte}
 use Rattle.cf_index.specs.Packed.{packed_from}
-use Rattle.cf_index.proofs.PackedWords.{from_none, issues_joined, issues_kept}
-use Rattle.cf_index.proofs.StartsOver.{none_taken}
+use Rattle.cf_index.proofs.PackedWords.{issues_joined, issues_kept}
 use Rattle.cf_index.proofs.packing.issues.Goals as goal
 
 pub returns-clause-moves : goal.returns-clause-moves
@@ -13,8 +11,3 @@ returns-clause-moves c =
     ∙ issues_joined i.next i.taken i.wait
     ∙ issues_kept c.args.rule c.args.core.now.plan c.args.core.now.state i.next i.taken i.wait
     c.guided_by_kind-issuable.ensures.next c.guided_by_kind-issuable.ensures.taken c.guided_by_kind-issuable.ensures.wait
-
-pub returns-then-not-is_lowest_free-clause-moves : goal.returns-then-not-is_lowest_free-clause-moves
-returns-then-not-is_lowest_free-clause-moves c =
-    let off : not c.is_lowest_free.result ≡ true = rw c.if-not-is_lowest_free.true refl in
-    from_none 0 3 ∙ sym (none_taken c.args.rule c.args.core.now.plan c.args.core.now.state false c.is_lowest_free.result c.is_lowest_free.ensures off)

@@ -10,7 +10,7 @@ flag_small true = omega arith
 flag_small false = omega arith
 
 pub eight_then-requires-clause-stages : goal.eight_then-requires-clause-stages
-eight_then-requires-clause-stages c = few_recovers c.args.core.now.plan c.args.core.now.state c.args.masks.now c.requires.masks c.requires.few
+eight_then-requires-clause-stages c = few_recovers c.args.core.now.plan c.args.core.now.state c.open_masks-masks.result c.open_masks-masks.ensures c.requires.few
 
 pub returns-then-idle-clause-moves : goal.returns-then-idle-clause-moves
 returns-then-idle-clause-moves c =
@@ -20,16 +20,16 @@ pub returns-else-idle-clause-moves : goal.returns-else-idle-clause-moves
 returns-else-idle-clause-moves c =
     let plan = c.args.core.now.plan in
     let s = c.args.core.now.state in
-    let m = c.args.masks.now in
+    let m = c.open_masks-masks.result in
     let few : plan.stages ≤ 32 = omega (arith, c.requires.few) in
     ap (packed_from 52 12) (c.flag_then.ensures ∙ ap (λ (w : ℕ). bool_byte c.may_access-access.result + 2 * w) c.eight_then.ensures)
     ∙ leaving_joined plan s c.may_access-access.result m.recover c.end_bits-ends.result few
-    (few_recovers plan s m c.requires.masks c.requires.few) c.may_access-access.ensures (recover-stages plan s m c.requires.masks)
+    (few_recovers plan s m c.open_masks-masks.ensures c.requires.few) c.may_access-access.ensures (recover-stages plan s m c.open_masks-masks.ensures)
     c.end_bits-ends.ensures.moves
 
 pub returns-else-idle-clause-bits : goal.returns-else-idle-clause-bits
 returns-else-idle-clause-bits c =
-    let small = few_recovers c.args.core.now.plan c.args.core.now.state c.args.masks.now c.requires.masks c.requires.few in
+    let small = few_recovers c.args.core.now.plan c.args.core.now.state c.open_masks-masks.result c.open_masks-masks.ensures c.requires.few in
     let flag = flag_small c.may_access-access.result in
     let ends = c.end_bits-ends.ensures.bits in
     let eight = c.eight_then.ensures in

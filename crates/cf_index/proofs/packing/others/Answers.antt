@@ -10,11 +10,11 @@ passing_then-passes-requires-clause-passing c =
 pub returns-clause-stages : goal.returns-clause-stages
 returns-clause-stages c =
     ap (λ (w : ℕ). packed_from 3 49 (w % 2 ^ 49)) c.flag_then.ensures
-    ∙ stages_part c.args.core.now.plan c.args.core.now.state c.emits.result c.passing_words.result c.passing_then-passes.result c.requires.few
-    c.emits.ensures c.passing_words.ensures c.passing_then-passes.ensures.moves
+    ∙ stages_part c.args.core.now.plan c.args.core.now.state c.emits_among.result c.passing_words.result c.passing_then-passes.result c.requires.few
+    c.emits_among.ensures c.passing_words.ensures c.passing_then-passes.ensures.moves
 
 pub returns-clause-leaving : goal.returns-clause-leaving
 returns-clause-leaving c =
     ap (packed_from 52 12) (ap (λ (w : ℕ). w / 2 ^ 49) c.flag_then.ensures
-    ∙ leaving_part c.emits.result c.passing_then-passes.result c.leaving_bits-leaves.result c.passing_then-passes.ensures.rest)
-    ∙ c.leaving_bits-leaves.ensures.moves
+    ∙ leaving_part c.emits_among.result c.passing_then-passes.result c.args.leaves c.passing_then-passes.ensures.rest)
+    ∙ c.requires.leaves

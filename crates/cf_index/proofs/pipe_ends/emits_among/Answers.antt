@@ -2,7 +2,7 @@ use Rattle.std.proofs.Common.{◌≡◌, ◌∙◌, ◌≤◌, Bool, false, true
 use Rattle.std.specs.Prelude.{nat_eq, not}
 use Rattle.std.proofs.lemmas.Bool.Decides.{nat_tests}
 use Rattle.cf_index.proofs.Rows.{emit_allowed}
-use Rattle.cf_index.proofs.pipe_ends.emits.Goals as goal
+use Rattle.cf_index.proofs.pipe_ends.emits_among.Goals as goal
 
 pub returns-then-lane_len-ne0 : goal.returns-then-lane_len-ne0
 returns-then-lane_len-ne0 c =
