@@ -1,7 +1,8 @@
 -- Turns of a policy: what a move leaves as it is, and where some turns lead; and what the rule picks in a sweep.
-use Rattle.std.specs.Prelude.{IfSome, MatchOption, is_some, not, slice_get, slice_set}
-use Rattle.std.proofs.Common.{◌≡◌, ◌≢◌, ◌∙◌, sym, refl, ap, subst, ℕ, zero, suc, ◌+◌, ◌-◌, ◌*◌, ◌≤◌, ◌<◌, ◌^◌, List, [], ◌∷◌, Bool, true, false, cond, Option, Some, None, Ok, arith}
+use Rattle.std.specs.Prelude.{IfSome, MatchOption, is_some, nat_le, not, slice_get, slice_set}
+use Rattle.std.proofs.Common.{◌≡◌, ◌≢◌, ◌∙◌, sym, refl, ap, subst, ℕ, zero, suc, ◌+◌, ◌-◌, ◌*◌, ◌≤◌, ◌<◌, ◌^◌, List, [], ◌∷◌, length, Bool, true, false, cond, Option, Some, None, Ok, arith}
 use Rattle.std.proofs.Math.Nat.{min-eq_left, min-le_right}
+use Rattle.rand_pcg.specs.Lcg.{Lcg}
 use Rattle.run_options.specs.declared.guess_rule.GuessRule.{GuessRule}
 use Rattle.run_options.specs.declared.reporting.Reporting.{Reporting}
 use Rattle.run_options.specs.declared.show.Show.{Show}
@@ -28,12 +29,14 @@ use Rattle.cf_semantics.specs.state.State.{State, cell_at, siding_at, with_cell,
 use Rattle.cf_core.specs.Asking.{AsksInput, AsksOutput}
 use Rattle.cf_core.specs.Processors.{IsProcessor, Processor, after_move}
 use Rattle.cf_core.proofs.Steps.{move-makes}
+use Rattle.cf_index.specs.Allowed.{is_allowed, withheld}
+use Rattle.cf_index.specs.GuessRules.{guided}
 use Rattle.cf_index.specs.Left.{AreLeft, IsLowest, IsMadeAt}
 use Rattle.cf_index.specs.Order.{kind_place, leave_place}
 use Rattle.cf_index.specs.PickedFrom.{IsLast, IsPicked, IsPickedFrom, from_end}
 use Rattle.cf_index.specs.Words.{goes_on}
-use Rattle.cf_sched.specs.Paces.{PaceCount, offered_by, saw, stopped}
-use Rattle.cf_sched.specs.Policies.{round_on, round_pick}
+use Rattle.cf_sched.specs.Paces.{PaceCount, holds_issue, offered_by, saw, stopped}
+use Rattle.cf_sched.specs.Policies.{drawn_on, drawn_pick, round_on, round_pick}
 use Rattle.cf_report.specs.declared.tally.Tally.{Tally}
 use Rattle.run_finishes.specs.declared.finish.Ran.{Ran as Answer}
 use Rattle.cf_run.specs.Asking.{SomeAsks}
@@ -41,9 +44,9 @@ use Rattle.cf_run.specs.Made.{CanCount, Made, counted_event, shown}
 use Rattle.cf_run.specs.Moving.{RunPlace, MoveDoes, run_place_of}
 use Rattle.cf_run.specs.Policies.{Turned, chooser, choice, most_moves}
 use Rattle.cf_run.specs.Reaching.{GoesOn, IsOver}
-use Rattle.cf_run.specs.Sweeps.{HasArrived, HasPicked, IsSweeping, IsUnderWay, Keeps, LeadsTo, PicksNext, PolicyPlace, RulePlace, SweepsFrom, SweepsOn, SweepsTo, TurnsOnce, TurnsTo, exposing, policy_at, rule_at, silent}
+use Rattle.cf_run.specs.Sweeps.{DrawsTo, HasArrived, HasPicked, IsDrawing, IsSweeping, IsTaken, IsUnderWay, Keeps, LeadsTo, PicksNext, PolicyPlace, RulePlace, SweepsFrom, SweepsOn, SweepsTo, TurnsOnce, TurnsTo, drawn_after, exposing, policy_at, rule_at, silent}
 use Rattle.cf_run.proofs.ByRule.{ruled-allowed}
-use Rattle.cf_run.proofs.Coming.{asked-comes, comes-bounded, comes-counted, comes-more, seen-count, turned-counted, turned-plan, turned-within}
+use Rattle.cf_run.proofs.Coming.{asked-comes, comes-bounded, comes-counted, comes-more, comes-offered, seen-count, turned-counted, turned-plan, turned-within}
 use Rattle.cf_run.proofs.Occupied.{same-pace}
 use Rattle.cf_run.proofs.Runs.{can-count}
 
@@ -164,11 +167,11 @@ unfolding shown
 unshown plan n made = refl
 
 does_unshown : (m : Move) (old new : Processor) (streams : Streams) (report : Option (List ℕ)) (tally later : Tally) (e : Event) →
-    kind_place m ≤ 12 → bar old.plan old.state m ≡ None → new ≡ after_move old m → IsEvent old.plan old.state m e → later ≡ counted_event tally m e →
+    m ≢ mv.Serve → bar old.plan old.state m ≡ None → new ≡ after_move old m → IsEvent old.plan old.state m e → later ≡ counted_event tally m e →
     MoveDoes silent m (run_place_of old streams report tally) (run_place_of new streams report later) (Ok e)
 unfolding MoveDoes
-does_unshown m old new streams report tally later e early free is event counts = record {
-  makes = record { allowed = free; makes = move-makes old new m streams (no_serve m early) is; is_event = event; tally = counts };
+does_unshown m old new streams report tally later e other free is event counts = record {
+  makes = record { allowed = free; makes = move-makes old new m streams other is; is_event = event; tally = counts };
   report = subst (Writes report report) (unshown old.plan later.moves (record { move = m; event = e; state = new.state })) (writes-nothing report);
 }
 
@@ -188,12 +191,12 @@ picked_free rule plan count s last m picked = ruled-allowed rule plan count s _ 
 -- once a choice of a policy is made, counted and recorded by the pace, the policy has made one turn
 chosen_turn : {P : Type 0} (picked : P → List Move → ℕ) (onward : P → List Move → P) (limit : ℕ) (now : PolicyPlace P) (core : Processor) (m : Move)
     (later : P) (pace : PaceCount) (tally : Tally) (e : Event) (seen : Bool) →
-    kind_place m ≤ 12 → IsUnderWay picked onward limit now →
+    m ≢ mv.Serve → IsUnderWay picked onward limit now →
     choice picked now.core.plan (chooser now.pace.rule now.policy now.pace.count) now.core.state ≡ Some m →
     later ≡ onward now.policy (offered_by now.pace.rule now.core.plan now.pace.count now.core.state) → core ≡ after_move now.core m →
     IsEvent now.core.plan now.core.state m e → tally ≡ counted_event now.tally m e → pace ≡ saw now.pace m e seen → seen ≡ is_drained core.state →
     TurnsOnce picked onward limit silent now (policy_at core later pace tally)
-chosen_turn picked onward limit now core m later pace tally e seen early ready chosen goes_to is event counts told drained =
+chosen_turn picked onward limit now core m later pace tally e seen other ready chosen goes_to is event counts told drained =
     let plan = now.core.plan in
     let free = ruled-allowed now.pace.rule plan now.pace.count now.core.state _ m chosen in
     record {
@@ -203,7 +206,7 @@ chosen_turn picked onward limit now core m later pace tally e seen early ready c
           move = m;
           choice_is = chosen;
           event = e;
-          does = does_unshown m now.core core streams report now.tally tally e early free is event counts;
+          does = does_unshown m now.core core streams report now.tally tally e other free is event counts;
         };
         policy_is = goes_to;
         count_is = seen-count now.pace pace m e seen (is_drained core.state) plan.stages told drained ready.come.stages;
@@ -441,14 +444,14 @@ goes_on_so limit at ready = rw (ready.goes.unended, ready.works) refl
 -- a choice that was made, counted and recorded by the pace leads on
 pub chosen-leads : {P : Type 0} (picked : P → List Move → ℕ) (onward : P → List Move → P) (limit : ℕ) (now : PolicyPlace P) (core : Processor) (m : Move)
     (later : P) (pace : PaceCount) (tally : Tally) (e : Event) (seen : Bool) →
-    kind_place m ≤ 12 → IsUnderWay picked onward limit now →
+    m ≢ mv.Serve → IsUnderWay picked onward limit now →
     choice picked now.core.plan (chooser now.pace.rule now.policy now.pace.count) now.core.state ≡ Some m →
     later ≡ onward now.policy (offered_by now.pace.rule now.core.plan now.pace.count now.core.state) → core ≡ after_move now.core m →
     IsEvent now.core.plan now.core.state m e → tally ≡ counted_event now.tally m e → pace ≡ saw now.pace m e seen → seen ≡ is_drained core.state →
     LeadsTo picked onward limit silent now (policy_at core later pace tally)
-chosen-leads picked onward limit now core m later pace tally e seen early ready chosen goes_to is event counts told drained =
+chosen-leads picked onward limit now core m later pace tally e seen other ready chosen goes_to is event counts told drained =
     one_more_turn limit silent now now (policy_at core later pace tally) (no_turns limit silent now)
-    (chosen_turn picked onward limit now core m later pace tally e seen early ready chosen goes_to is event counts told drained)
+    (chosen_turn picked onward limit now core m later pace tally e seen other ready chosen goes_to is event counts told drained)
 
 -- so does the rule's pick
 pub picked-sweeps : (limit : ℕ) (now : RulePlace) (core : Processor) (m : Move) (pace : PaceCount) (tally : Tally) (e : Event) (seen : Bool) →
@@ -457,7 +460,7 @@ pub picked-sweeps : (limit : ℕ) (now : RulePlace) (core : Processor) (m : Move
     SweepsTo limit silent now (rule_at core (Some m) pace tally)
 picked-sweeps limit now core m pace tally e seen early ready picked is event counts told drained =
     let chosen = chosen_so now.pace.rule now.core.plan now.pace.count now.core.state now.policy m picked in
-    chosen-leads round_pick round_on limit now core m (Some m) pace tally e seen early ready chosen (sym chosen) is event counts told drained
+    chosen-leads round_pick round_on limit now core m (Some m) pace tally e seen (no_serve m early) ready chosen (sym chosen) is event counts told drained
 
 -- unless it is Leave, the run goes on
 pub sweeping-kept : {P : Type 0} {picked : P → List Move → ℕ} {onward : P → List Move → P} (limit : ℕ) (now new : PolicyPlace P) →
@@ -469,7 +472,7 @@ sweeping-kept limit now new ready swept keeps =
     sweeping-on limit now new ready swept (record { unended = keeps.ending ∙ ready.goes.unended; below = omega (arith, below, retired) })
 
 -- the count of a pace has stopped where it stops
-count-stops : {P : Type 0} {picked : P → List Move → ℕ} {onward : P → List Move → P} (limit : ℕ) (show : Reporting) (at : PolicyPlace P) →
+pub count-stops : {P : Type 0} {picked : P → List Move → ℕ} {onward : P → List Move → P} (limit : ℕ) (show : Reporting) (at : PolicyPlace P) →
     HasArrived picked onward limit show at → stopped at.pace.stages at.pace.count ≡ at.pace.count
 count-stops limit show at h =
     let begin = h.begin.core.plan.stages in
@@ -488,7 +491,8 @@ pub chosen-within : {P : Type 0} (picked : P → List Move → ℕ) (onward : P 
 chosen-within picked onward limit now core m later tally e after before ready chosen goes_to is event counts =
     let plan = now.core.plan in
     let free = ruled-allowed now.pace.rule plan now.pace.count now.core.state _ m chosen in
-    chosen-leads picked onward limit now core m later now.pace tally e (is_drained (moved plan now.core.state m)) (omega (arith, before)) ready chosen goes_to
+    chosen-leads picked onward limit now core m later now.pace tally e (is_drained (moved plan now.core.state m))
+    (no_serve m (omega (arith, before))) ready chosen goes_to
     is event counts
     (same-pace plan now.core.state now.pace m e after before free event (count-stops limit silent now ready.come))
     (ap (λ (p : Processor). is_drained p.state) (sym is))
@@ -546,3 +550,74 @@ left-on old new kind a w after i made facts left lowest so =
       lowest = lowest;
       moved_is = subst (λ (l : Plan). new.state ≡ moved l old.state (kind i)) (sym plan) state;
     })
+
+-- Moves that are drawn --
+
+-- no move but a meeting shows anything before it leaves
+pub unseen-counted : (plan : Plan) (s : State) (m : Move) (e : Event) (tally : Tally) → 1 ≤ kind_place m → kind_place m ≤ 10 → kind_place m ≢ 4 →
+    IsEvent plan s m e → counted_event tally m e ≡ record tally { moves = tally.moves + 1 }
+unseen-counted plan s (mv.Issue g) e tally after before other is = absurd (omega (arith, after))
+unseen-counted plan s mv.Emit e tally after before other is = ap (counted_event tally mv.Emit) is
+unseen-counted plan s (mv.Climb i) e tally after before other is = ap (counted_event tally (mv.Climb i)) is
+unseen-counted plan s (mv.Fall i) e tally after before other is = ap (counted_event tally (mv.Fall i)) is
+unseen-counted plan s (mv.Meet i) e tally after before other is = absurd (other refl)
+unseen-counted plan s (mv.Execute i) e tally after before other is = ap (counted_event tally (mv.Execute i)) is
+unseen-counted plan s (mv.Send i) e tally after before other is = ap (counted_event tally (mv.Send i)) is
+unseen-counted plan s (mv.Launch i) e tally after before other is = ap (counted_event tally (mv.Launch i)) is
+unseen-counted plan s (mv.Slide k c) e tally after before other is = ap (counted_event tally (mv.Slide k c)) is
+unseen-counted plan s mv.Access e tally after before other is = ap (counted_event tally mv.Access) is
+unseen-counted plan s (mv.Recover i) e tally after before other is = ap (counted_event tally (mv.Recover i)) is
+unseen-counted plan s mv.Leave e tally after before other is = absurd (omega (arith, before))
+unseen-counted plan s mv.Exit e tally after before other is = absurd (omega (arith, before))
+unseen-counted plan s mv.Serve e tally after before other is = absurd (omega (arith, before))
+
+-- a move that is allowed where Serve is not is another
+pub allowed-inside : (plan : Plan) (s : State) (m : Move) → false ≡ is_allowed plan s mv.Serve → bar plan s m ≡ None → m ≢ mv.Serve
+allowed-inside plan s m barred free is =
+    let allowed : is_allowed plan s mv.Serve ≡ true = rw (rw is at free) refl in
+    absurd (cc)
+
+-- the pace sees nothing of a move by which nothing enters at the bottom or leaves
+pub within-taken : (core new : Processor) (m : Move) (pace : PaceCount) (tally after : Tally) (e : Event) → 1 ≤ kind_place m → kind_place m ≤ 10 →
+    bar core.plan core.state m ≡ None → stopped pace.stages pace.count ≡ pace.count → new ≡ after_move core m → IsEvent core.plan core.state m e →
+    after ≡ counted_event tally m e → IsTaken m core new pace pace tally after
+within-taken core new m pace tally after e late early free stops is event counts = record {
+  event = e;
+  is_event = event;
+  made = is;
+  counted = counts;
+  recorded = same-pace core.plan core.state pace m e late early free event stops
+      ∙ ap (λ (p : Processor). saw pace m e (is_drained p.state)) (sym is);
+}
+
+-- a drawn move that was made, counted and recorded is a turn of the run
+pub drawn-leads : (limit : ℕ) (now : PolicyPlace Lcg) (core : Processor) (m : Move) (pace : PaceCount) (tally : Tally) (offered : List Move) →
+    m ≢ mv.Serve → IsDrawing limit now → offered ≡ offered_by now.pace.rule now.core.plan now.pace.count now.core.state →
+    Some m ≡ slice_get offered (drawn_pick now.policy offered) → IsTaken m now.core core now.pace pace now.tally tally →
+    DrawsTo limit silent now (policy_at core (drawn_on now.policy) pace tally)
+drawn-leads limit now core m pace tally offered other ready same chosen t =
+    chosen-leads drawn_pick drawn_after limit now core m (drawn_on now.policy) pace tally t.event (is_drained core.state) other ready
+    (sym (rw same at chosen)) refl t.made t.is_event t.counted t.recorded refl
+
+-- such a move is allowed
+pub drawn-free : (limit : ℕ) (now : PolicyPlace Lcg) (m : Move) (offered : List Move) →
+    offered ≡ offered_by now.pace.rule now.core.plan now.pace.count now.core.state →
+    Some m ≡ slice_get offered (drawn_pick now.policy offered) → bar now.core.plan now.core.state m ≡ None
+drawn-free limit now m offered same chosen =
+    ruled-allowed now.pace.rule now.core.plan now.pace.count now.core.state _ m (sym (rw same at chosen))
+
+-- and at least one move is offered
+pub drawing-offered : (limit : ℕ) (at : PolicyPlace Lcg) → IsDrawing limit at → 0 < length (offered_by at.pace.rule at.core.plan at.pace.count at.core.state)
+drawing-offered limit at ready =
+    let h = ready.come in
+    comes-offered at.pace.rule _ _ limit silent h.begin (exposing at h.streams h.report) h.first at.policy at.pace.count h.accepted h.registers h.opened
+    h.comes ready.goes.unended
+
+-- what is offered under the hold rule, as its count says whether Issue is held back
+pub offered-so : (pace : PaceCount) (rule : GuessRule) (plan : Plan) (s : State) (held : Bool) (offered : List Move) → rule ≡ pace.rule →
+    held ≡ holds_issue pace → pace.stages ≡ plan.stages → offered ≡ withheld held (guided rule plan s) →
+    offered ≡ offered_by pace.rule plan pace.count s
+unfolding offered_by
+offered-so pace rule plan s held offered same is stages e =
+    let here : held ≡ is_held plan pace.count = is ∙ ap (λ (n : ℕ). nat_le (2 * n) pace.count) stages in
+    rw (same, here) at e

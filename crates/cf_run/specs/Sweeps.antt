@@ -1,6 +1,7 @@
 -- Turns of a policy that lead from one place of a run to another, none of which stops it; and the sweeps of the rule, which picks one
 -- move of a kind after another. They use neither stream and show nothing, so what is said of them holds whatever these expose.
 use Rattle.std.specs.Prelude.{◌≡◌, ◌≤◌, ℕ, zero, suc, List, None, Option, length, false}
+use Rattle.rand_pcg.specs.Lcg.{Lcg}
 use Rattle.run_options.specs.Limits.{most_limit}
 use Rattle.run_options.specs.declared.guess_rule.GuessRule.{GuessRule}
 use Rattle.run_options.specs.declared.reporting.Reporting.{Reporting}
@@ -9,13 +10,17 @@ use Rattle.rv_machine.specs.Streams.{Streams}
 use Rattle.cf_layout.specs.Accepted.{IsAccepted}
 use Rattle.cf_layout.specs.Layout.{Plan}
 use Rattle.cf_bind.specs.declared.moves.Move.{Move}
+use Rattle.cf_semantics.specs.declared.event.Event.{Event}
+use Rattle.cf_semantics.specs.moves.Events.{IsEvent}
 use Rattle.cf_semantics.specs.moves.Holding.{is_held}
+use Rattle.cf_semantics.specs.state.Drained.{is_drained}
 use Rattle.cf_semantics.specs.state.State.{State}
 use Rattle.cf_index.specs.PickedFrom.{IsPicked, IsPickedFrom}
-use Rattle.cf_core.specs.Processors.{IsOpened, Processor}
+use Rattle.cf_core.specs.Processors.{IsOpened, Processor, after_move}
 use Rattle.cf_report.specs.declared.tally.Tally.{Tally}
-use Rattle.cf_sched.specs.Paces.{PaceCount, stopped}
-use Rattle.cf_sched.specs.Policies.{round_on, round_pick}
+use Rattle.cf_sched.specs.Paces.{PaceCount, saw, stopped}
+use Rattle.cf_sched.specs.Policies.{drawn_on, drawn_pick, round_on, round_pick}
+use Rattle.cf_run.specs.Made.{counted_event}
 use Rattle.cf_run.specs.Moving.{RunPlace, run_place_of}
 use Rattle.cf_run.specs.Policies.{Chooser, Picks, Turned, chooser, fresh_chooser}
 use Rattle.cf_run.specs.Reaching.{GoesOn, Reaches}
@@ -124,6 +129,30 @@ pub record IsUnderWay {P : Type 0} (picked : P → List Move → ℕ) (onward : 
 -- a run by the rule has and does
 abbrev pub IsSweeping : (limit : ℕ) → RulePlace → Type 0
 IsSweeping limit at = IsUnderWay round_pick round_on limit at
+
+-- a generator after it was drawn from, whatever it was offered
+abbrev pub drawn_after : Lcg → List Move → Lcg
+drawn_after g moves = drawn_on g
+
+-- some turns of a run from a seed lead from one place to another
+abbrev pub DrawsTo : (limit : ℕ) → Reporting → (now new : PolicyPlace Lcg) → Type 0
+DrawsTo limit show now new = LeadsTo drawn_pick drawn_after limit show now new
+
+-- a run from a seed has come here
+abbrev pub HasDrawn : (limit : ℕ) → Reporting → PolicyPlace Lcg → Type 0
+HasDrawn limit show at = HasArrived drawn_pick drawn_after limit show at
+
+-- a run from a seed that shows nothing has come here and goes on
+abbrev pub IsDrawing : (limit : ℕ) → PolicyPlace Lcg → Type 0
+IsDrawing limit at = IsUnderWay drawn_pick drawn_after limit at
+
+-- the move was made, counted, and recorded by the pace
+pub record IsTaken (m : Move) (core new : Processor) (pace later : PaceCount) (tally after : Tally) : Type 0 where
+  pub event : Event
+  pub is_event : IsEvent core.plan core.state m event
+  pub made : new ≡ after_move core m
+  pub counted : after ≡ counted_event tally m event
+  pub recorded : later ≡ saw pace m event (is_drained new.state)
 
 -- the rule picks the move after its last pick
 abbrev pub PicksNext : PaceCount → Processor → (last : Option Move) → Move → Type 0

@@ -2,6 +2,7 @@
 #![tactic(auto)]
 
 mod counting;
+mod drawing;
 mod facts;
 mod finished;
 pub mod laws;
@@ -14,6 +15,7 @@ mod showing;
 mod sweep;
 mod turning_over;
 
+pub use drawing::run_drawn;
 pub use facts::known;
 pub use finished::over;
 pub use making::make_and_show;

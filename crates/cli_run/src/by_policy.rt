@@ -10,8 +10,8 @@ use cf_core::Core;
 use cf_index::Candidates;
 use cf_io::{Failed, Sink, Source};
 use cf_report::ReportSink;
-use cf_run::{PolicyOptions, Reporting, Scripted, run_policy};
-use cf_sched::Policy;
+use cf_run::{PolicyOptions, Reporting, Scripted, run_drawn};
+use cf_sched::Drawn;
 use cli_processor::no_moves;
 use cli_reports::{Reported, RunStreams};
 use run_options::GuessRule;
@@ -21,18 +21,18 @@ use run_options::GuessRule;
 // A separate function, with the policy as a local, so that the compiler makes a loop for each policy and keeps its
 // state in registers.
 #[inline(never)]
-pub fn run_by_policy<P: Policy + Drop, S: Source, K: Sink, R: ReportSink>(
+pub fn run_by_policy<S: Source, K: Sink, R: ReportSink>(
     core: &mut Core,
     candidates: &mut Candidates,
-    policy: P,
+    policy: Drawn,
     rule: GuessRule,
     limit: u64,
     reporting: Reporting,
     streams: RunStreams<'_, S, K, R>,
 ) -> Result<Reported, Failed>
     requires begins { CanRun limit core.old }
-    ensures { CarriesOutRun (RunsCore limit reporting core.old core.new (ByPolicy rule P.picked P.onward limit reporting policy))
-        (BreaksCore limit reporting core.old (ByPolicy rule P.picked P.onward limit reporting policy))
+    ensures { CarriesOutRun (RunsCore limit reporting core.old core.new (ByPolicy rule drawn_pick (λ g moves. drawn_on g) limit reporting policy))
+        (BreaksCore limit reporting core.old (ByPolicy rule drawn_pick (λ g moves. drawn_on g) limit reporting policy))
         (run_change S.Source K.Sink R.Sink streams.entry streams.exit) result }
 {
     let mut policy = policy;
@@ -47,7 +47,7 @@ pub fn run_by_policy<P: Policy + Drop, S: Source, K: Sink, R: ReportSink>(
         limit,
         reporting,
     };
-    let ran = run_policy(
+    let ran = run_drawn(
         core,
         candidates,
         &mut policy,
