@@ -11,9 +11,9 @@ ghost use Rattle.cli_run.specs.Run.{chosen_by, RunsCore, RunsWithTail, BreaksCor
 ghost use Rattle.cli_reports.specs.OutsideChanges.{run_change, outside_change};
 ghost use Rattle.cli_files.specs.Schedules.{ready_schedule_view, FitsScript};
 
-use crate::by_policy::run_by_policy;
 use crate::by_rule::run_by_rule;
 use crate::by_script::run_by_script;
+use crate::by_seed::run_by_seed;
 use crate::tail::{Tail, add_tail};
 use cf_core::Core;
 use cf_index::Candidates;
@@ -49,7 +49,7 @@ fn run_scheduled<S: Source, K: Sink, R: ReportSink>(
         }
         ReadySchedule::Seed(seed, rule) => {
             let drawn = Drawn::new(*seed);
-            run_by_policy(core, candidates, drawn, *rule, limit, reporting, streams)
+            run_by_seed(core, candidates, drawn, *rule, limit, reporting, streams)
         }
         ReadySchedule::Rule(rule) => {
             let round = Round::new();
