@@ -1,18 +1,23 @@
 -- The allowed moves in two parts: the Issues and the others.
-use Rattle.std.proofs.Common.{◌≡◌, refl, ap, ◌<◌, ◌≤◌, List, [], ◌∷◌, ◌++◌, length, Bool, true, false, cond, nat_lt, Some, None, arith}
-use Rattle.std.specs.Prelude.{filter, slice_get}
+use Rattle.std.proofs.Common.{◌≡◌, refl, ap, ◌<◌, ◌≤◌, List, [], ◌∷◌, ◌++◌, length, Bool, true, false, cond, nat_lt, Option, Some, None, arith}
+use Rattle.std.specs.Prelude.{◌&&◌, filter, not, slice_get}
 use Rattle.std.proofs.lemmas.Bool.Decides.{nat_tests}
 use Rattle.std.proofs.lemmas.List.{length-append}
 use Rattle.run_options.specs.declared.guess_rule.GuessRule.{GuessRule}
 use Rattle.cf_layout.specs.Layout.{Plan}
+use Rattle.cf_bind.specs.declared.moves.Bar.{Bar}
+use Rattle.cf_bind.specs.declared.moves.Bar.TheVariants.{Failed, Halted}
 use Rattle.cf_bind.specs.declared.moves.Move.{Move}
 use Rattle.cf_bind.specs.declared.moves.Move.TheVariants.{Issue, Emit}
 use Rattle.cf_bind.specs.declared.passenger.Guess.TheVariants.{Next, Taken, Wait}
+use Rattle.cf_semantics.specs.moves.Bars.{bar, first, row_bar}
 use Rattle.cf_semantics.specs.moves.Candidates.{held_back, slides_from}
+use Rattle.cf_semantics.specs.state.Options.{is_some}
 use Rattle.cf_semantics.specs.state.State.{State}
 use Rattle.cf_index.specs.Allowed.{all_leaving, all_passing, allowed_others, is_allowed, kept_issues, may_issue, unheld_issues, withheld}
 use Rattle.cf_index.specs.GuessRules.{guided, keeps_move}
 use Rattle.cf_index.specs.Listed.{flagged}
+use Rattle.cf_index.specs.Words.{goes_on}
 use Rattle.cf_index.specs.Most.{most_leaving, most_of_kind, most_others, most_passing}
 use Rattle.cf_index.proofs.Firsts.{guided_others, guided_parts}
 use Rattle.cf_index.proofs.Guided.{three-flagged}
@@ -71,3 +76,26 @@ issue_none r plan s n t w next taken wait e f g =
     rw (e, f, g) at (ap (λ (l : List Move). slice_get l 0) (three-flagged (keeps_move r plan s) (is_allowed plan s) n t w next taken wait))
 
 pub ruleset issues = (issue_next, issue_taken, issue_wait, issue_none)
+
+-- once the program has ended, or the input or the output has failed, none is allowed
+barred_over : (ended failed : Bool) (b : Option Bar) → (not ended && not failed) ≡ false →
+    not (is_some (first ended Halted (first failed Failed b))) ≡ false
+barred_over true failed b over = refl
+barred_over false true b over = refl
+barred_over false false b over = absurd (cc)
+
+none_allowed : (plan : Plan) (s : State) → goes_on s ≡ false → (mv : Move) → is_allowed plan s mv ≡ false
+unfolding bar
+none_allowed plan s over mv = barred_over (is_some s.ending) s.failed (row_bar plan s mv) over
+
+none_chosen : (q : Move → Bool) (xs : List Move) → ((mv : Move) → q mv ≡ false) → filter q xs ≡ []
+none_chosen q [] none = refl
+none_chosen q (x ∷ xs) none = rw (none x) (none_chosen q xs none)
+
+pub none_once_over : (plan : Plan) (s : State) → goes_on s ≡ false → allowed_others plan s ≡ []
+none_once_over plan s over =
+    let q = is_allowed plan s in
+    let none = none_allowed plan s over in
+    let passing = none_chosen q (all_passing plan) none in
+    let slides = none_chosen q (slides_from 0 plan.sidings) none in
+    rw (none Emit, passing, slides, none_chosen q (all_leaving plan) none) refl

@@ -1,6 +1,6 @@
 //! Computing the candidates from a processor.
 
-ghost use Rattle.std.specs.Prelude.{◌≡◌, filter};
+ghost use Rattle.std.specs.Prelude.{◌≡◌, filter, true};
 ghost use Rattle.cf_semantics.specs.moves.Candidates.{candidates, slides_from};
 ghost use Rattle.cf_core.specs.Masks.{masks_of};
 ghost use Rattle.cf_index.specs.Allowed.{all_entering, all_leaving, all_passing, is_allowed, passing_of, withheld};
@@ -14,6 +14,7 @@ use crate::guiding::guided;
 use crate::idle::accesses;
 use crate::leaving::Leaving;
 use crate::passing::Passing;
+use crate::pipe_ends::{exits, leaves_among, serves_among};
 use crate::stages::{
     climbs_among, executes, falls, goes_on, know_stages, launches, meets, sends, stages,
 };
@@ -62,13 +63,25 @@ pub(crate) fn passing_words(core: &Core, masks: &Masks, stages: u32, on: bool) -
     }
 }
 
+/// The candidates within the stages, given the number of these and whether the processor goes on.
+#[inline(always)]
+pub(crate) fn passing_if(core: &Core, masks: &Masks, stages: u32, on: bool) -> Passing
+    requires stages { stages ≡ core.now.plan.stages }
+    requires on { on ≡ is_going core.now.state }
+    requires masks { masks.now ≡ masks_of core.now.plan core.now.state }
+    ensures { passing_moves result ≡ filter (is_allowed core.now.plan core.now.state) (all_passing core.now.plan) }
+{
+    know_stages(core);
+    passing_words(core, masks, stages, on)
+}
+
 /// The candidates within the stages.
 #[inline(always)]
 pub(crate) fn passing(core: &Core, masks: &Masks) -> Passing
     requires { masks.now ≡ masks_of core.now.plan core.now.state }
     ensures { passing_moves result ≡ filter (is_allowed core.now.plan core.now.state) (all_passing core.now.plan) }
 {
-    passing_words(core, masks, stages(core), goes_on(core))
+    passing_if(core, masks, stages(core), goes_on(core))
 }
 
 /// The candidates by which something leaves.
@@ -84,6 +97,24 @@ pub(crate) fn leaving(core: &Core, masks: &Masks) -> Leaving
         leave: core.may_leave(),
         exit: core.may_exit(),
         serve: core.may_serve(),
+    }
+}
+
+/// The candidates by which something leaves, of a processor that goes on, given the number of stages.
+#[inline(always)]
+pub(crate) fn open_leaving(core: &Core, masks: &Masks, stages: u32) -> Leaving
+    requires stages { stages ≡ core.now.plan.stages }
+    requires on { is_going core.now.state ≡ true }
+    requires masks { masks.now ≡ masks_of core.now.plan core.now.state }
+    ensures { leaving_moves result ≡ filter (is_allowed core.now.plan core.now.state) (all_leaving core.now.plan) }
+{
+    know_stages(core);
+    Leaving {
+        access: accesses(core),
+        recover: masks.recover,
+        leave: leaves_among(core, masks, stages),
+        exit: exits(core, masks),
+        serve: serves_among(core, stages),
     }
 }
 

@@ -61,7 +61,7 @@ pub(crate) fn emits(core: &Core, masks: &Masks) -> bool
 /// Whether Leave is allowed, given the number of stages.
 // What the instruction of the highest stage has done is looked at only where there is one.
 #[inline(always)]
-fn leaves_among(core: &Core, masks: &Masks, stages: u32) -> bool
+pub(crate) fn leaves_among(core: &Core, masks: &Masks, stages: u32) -> bool
     requires stages { stages ≡ core.now.plan.stages }
     requires on { goes_on core.now.state ≡ true }
     requires masks { masks.now ≡ masks_of core.now.plan core.now.state }

@@ -1,6 +1,6 @@
 //! Showing the candidates to a visitor, one after another. Those of a kind are found by walking the bits of its word.
 
-ghost use Rattle.std.specs.Prelude.{◌≡◌, ◌<◌, ◌≤◌, ◌∷◌, [], filter, fold, length, map, slice_get};
+ghost use Rattle.std.specs.Prelude.{◌≡◌, ◌<◌, ◌≤◌, ◌∷◌, [], filter, fold, length, map, slice_get, true};
 ghost use Rattle.cf_bind.specs.declared.moves.Move.{Move as Step};
 ghost use Rattle.cf_bind.specs.declared.moves.Move.TheVariants as mv;
 ghost use Rattle.cf_core.specs.Masks.{masks_of};
@@ -15,13 +15,14 @@ ghost use Rattle.cf_index.specs.Words.{goes_on as is_going};
 use crate::bits::count;
 use crate::candidates::Candidates;
 use crate::entering::Entering;
-use crate::fill::{leaving, passing, slides};
+use crate::fill::{open_leaving, passing_if, slides};
 use crate::guiding::{guided, own_guess};
 use crate::idle::are_empty;
 use crate::leaving::Leaving;
 use crate::passing::Passing;
+use crate::pipe_ends::emits_among;
 use crate::plainly::issues_any;
-use crate::stages::goes_on;
+use crate::stages::{goes_on, stages};
 use cf_bind::{Guess, Move};
 use cf_core::{Core, Masks};
 use run_options::GuessRule;
@@ -151,23 +152,28 @@ impl Candidates {
     }
 }
 
-/// Shows Emit if it is allowed.
+/// Shows Emit if it is allowed, given the number of stages.
 #[inline(always)]
 #[tactic(auto, using(crate::proofs::Others::emit_chosen))]
-fn visit_emit<V: Visitor>(core: &Core, visitor: &mut V)
+fn visit_emit<V: Visitor>(core: &Core, masks: &Masks, stages: u32, visitor: &mut V)
+    requires stages { stages ≡ core.now.plan.stages }
+    requires on { is_going core.now.state ≡ true }
+    requires masks { masks.now ≡ masks_of core.now.plan core.now.state }
     ensures { visitor.new ≡ fold V.after visitor.old (filter (is_allowed core.now.plan core.now.state) (mv.Emit ∷ [])) }
 {
-    visit_if(visitor, core.may_emit(), Move::Emit);
+    visit_if(visitor, emits_among(core, masks, stages), Move::Emit);
 }
 
-/// Shows the allowed moves within the stages.
+/// Shows the allowed moves within the stages, given their number.
 #[inline(always)]
-fn visit_passing<V: Visitor>(core: &Core, masks: &Masks, visitor: &mut V)
-    requires { masks.now ≡ masks_of core.now.plan core.now.state }
+fn visit_passing<V: Visitor>(core: &Core, masks: &Masks, stages: u32, visitor: &mut V)
+    requires stages { stages ≡ core.now.plan.stages }
+    requires on { is_going core.now.state ≡ true }
+    requires masks { masks.now ≡ masks_of core.now.plan core.now.state }
     ensures shown { visitor.new ≡ fold V.after visitor.old (filter (is_allowed core.now.plan core.now.state) (all_passing core.now.plan)) }
     ensures few { length (filter (is_allowed core.now.plan core.now.state) (all_passing core.now.plan)) ≤ most_passing }
 {
-    let passing = passing(core, masks);
+    let passing = passing_if(core, masks, stages, true);
     let _count = passing.len();
     passing.visit(visitor);
 }
@@ -187,32 +193,48 @@ fn visit_slides<V: Visitor>(core: &Core, visitor: &mut V)
     visit_word(visitor, Spread::Slide, slides);
 }
 
-/// Shows the allowed moves by which something leaves.
+/// Shows the allowed moves by which something leaves, given the number of stages.
 #[inline(always)]
-fn visit_leaving<V: Visitor>(core: &Core, masks: &Masks, visitor: &mut V)
-    requires { masks.now ≡ masks_of core.now.plan core.now.state }
+fn visit_leaving<V: Visitor>(core: &Core, masks: &Masks, stages: u32, visitor: &mut V)
+    requires stages { stages ≡ core.now.plan.stages }
+    requires on { is_going core.now.state ≡ true }
+    requires masks { masks.now ≡ masks_of core.now.plan core.now.state }
     ensures shown { visitor.new ≡ fold V.after visitor.old (filter (is_allowed core.now.plan core.now.state) (all_leaving core.now.plan)) }
     ensures few { length (filter (is_allowed core.now.plan core.now.state) (all_leaving core.now.plan)) ≤ most_leaving }
 {
-    let leaving = leaving(core, masks);
+    let leaving = open_leaving(core, masks, stages);
     let _count = leaving.len();
     leaving.visit(visitor);
+}
+
+/// Shows each allowed move except the Issues, where the processor goes on.
+#[inline(always)]
+#[tactic(auto, using(crate::proofs::Shown::shown_parts, crate::proofs::Others::few_parts))]
+fn visit_open<V: Visitor>(core: &Core, visitor: &mut V)
+    requires { is_going core.now.state ≡ true }
+    ensures shown { visitor.new ≡ fold V.after visitor.old (allowed_others core.now.plan core.now.state) }
+    ensures few { length (allowed_others core.now.plan core.now.state) ≤ most_others }
+{
+    let masks = core.open_masks();
+    let stages = stages(core);
+    visit_emit(core, &masks, stages, visitor);
+    visit_passing(core, &masks, stages, visitor);
+    visit_slides(core, visitor);
+    visit_leaving(core, &masks, stages, visitor);
 }
 
 impl Candidates {
     /// Shows each allowed move of the processor except the Issues, in the order of all moves. No candidates are filled
     /// in.
     #[inline(always)]
-    #[tactic(auto, using(crate::proofs::Shown::shown_parts, crate::proofs::Others::few_parts))]
+    #[tactic(auto, using(crate::proofs::Others::none_once_over))]
     pub fn visit_others<V: Visitor>(core: &Core, visitor: &mut V)
         ensures shown { visitor.new ≡ fold V.after visitor.old (allowed_others core.now.plan core.now.state) }
         ensures few { length (allowed_others core.now.plan core.now.state) ≤ most_others }
     {
-        let masks = core.masks();
-        visit_emit(core, visitor);
-        visit_passing(core, &masks, visitor);
-        visit_slides(core, visitor);
-        visit_leaving(core, &masks, visitor);
+        if goes_on(core) {
+            visit_open(core, visitor);
+        }
     }
 
     /// The first of the allowed Issues that the guess rule keeps, given whether the processor goes on. If an instruction
