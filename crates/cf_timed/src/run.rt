@@ -36,9 +36,11 @@ struct Course {
     kept: DueMoves,
 }
 
-/// Makes the move that finishes earliest, or returns why the run stops.
+/// Makes the move that finishes earliest, or returns why the run stops. Nothing is shown to the watcher yet.
+// It takes the watcher so that each kind of run has a function of its own for a move, which is inlined in its loop.
 #[inline(always)]
-fn advance<S: Source, K: Sink>(
+fn advance<W: Watcher, S: Source, K: Sink>(
+    _watcher: &W,
     core: &mut Core,
     candidates: &mut Candidates,
     clock: &mut Clock,
@@ -152,6 +154,7 @@ pub fn run_watched<W: Watcher, S: Source, K: Sink, R: Sink>(
     };
     loop {
         let step = match advance(
+            &*watcher,
             core,
             candidates,
             clock,

@@ -1,9 +1,9 @@
 //! The move that finishes earliest, found without filling in the candidates.
 
-ghost use Rattle.std.specs.Prelude.{◌≡◌, ◌-◌, ◌≤◌, ◌^◌, Bool, IfSome, None, [], true};
+ghost use Rattle.std.specs.Prelude.{◌≡◌, ◌-◌, ◌≤◌, ◌^◌, Bool, IfSome, None, [], slice_get, true};
 ghost use Rattle.std.specs.List.{AllByRecursion};
 ghost use Rattle.run_options.specs.declared.guess_rule.GuessRule.{GuessRule as Rule};
-ghost use Rattle.cf_index.specs.Allowed.{allowed_others, unheld_issues, withheld};
+ghost use Rattle.cf_index.specs.Allowed.{allowed_others, kept_issues, unheld_issues, withheld};
 ghost use Rattle.cf_index.specs.GuessRules.{guided};
 ghost use Rattle.cf_timed.specs.Clocks.{capped, clocked};
 ghost use Rattle.cf_timed.specs.DueMoves.{AreDue, IsLeft, still_due};
@@ -38,6 +38,15 @@ fn issues_none(core: &Core) -> bool
         Fetch::Running(_) => has_bit(masks.passengers, 1),
         Fetch::Waiting => true,
     }
+}
+
+/// The first of the allowed Issues that the guess rule keeps.
+// It is asked for rarely, and decodes an instruction.
+#[inline(never)]
+fn first_issue(core: &Core, rule: GuessRule) -> Option<Move>
+    ensures { result ≡ slice_get (kept_issues rule core.now.plan core.now.state) 0 }
+{
+    Candidates::first_issue(core, rule)
 }
 
 impl Clock {
@@ -75,7 +84,7 @@ impl Clock {
         if by < next.time {
             return None;
         }
-        match Candidates::first_issue(core, rule) {
+        match first_issue(core, rule) {
             Some(mv) => Some(Due { mv, ..next }),
             None => None,
         }
@@ -122,7 +131,8 @@ impl Clock {
     }
 
     /// The first of the moves that a look finds.
-    #[inline(always)]
+    // A look is needed for one move in three, and is much larger than the rest of what picks a move.
+    #[inline(never)]
     fn first_looked(&self, core: &Core, kept: &mut DueMoves) -> Option<Due>
         ensures due { AreDue core.now.plan (clocked self.now core.now.state) kept.new }
         ensures first { IfSome result (λ due. IsFirstDue (clocked self.now core.now.state) kept.new due) }
