@@ -92,7 +92,8 @@ impl Clock {
 
     /// Looks at the allowed moves other than Issue, and keeps those that finish earliest. It keeps none if no time is
     /// below the maximum `u64`.
-    #[inline(always)]
+    // A look is needed for one move in three, and is much larger than the rest of what picks a move.
+    #[inline(never)]
     fn look(&self, core: &Core, kept: &mut DueMoves)
         ensures due { AreDue core.now.plan (clocked self.now core.now.state) kept.new }
         ensures still { still_due self.now kept.new ≡ kept.new.moves }
@@ -131,8 +132,7 @@ impl Clock {
     }
 
     /// The first of the moves that a look finds.
-    // A look is needed for one move in three, and is much larger than the rest of what picks a move.
-    #[inline(never)]
+    #[inline(always)]
     fn first_looked(&self, core: &Core, kept: &mut DueMoves) -> Option<Due>
         ensures due { AreDue core.now.plan (clocked self.now core.now.state) kept.new }
         ensures first { IfSome result (λ due. IsFirstDue (clocked self.now core.now.state) kept.new due) }
