@@ -26,6 +26,16 @@ kept_none (x ∷ moves) (suc n) zero past = refl
 kept_none (x ∷ moves) zero (suc count) past = absurd (omega arith)
 kept_none (x ∷ moves) (suc n) (suc count) past = kept_none moves n count (omega (arith, past))
 
+pub kept_some : (moves : List Move) (n count : ℕ) → 0 < length (drop n (take count moves)) → n < count
+kept_some [] zero zero some = absurd (omega (arith, some))
+kept_some [] zero (suc count) some = omega arith
+kept_some [] (suc n) zero some = absurd (omega (arith, some))
+kept_some [] (suc n) (suc count) some = absurd (omega (arith, some))
+kept_some (x ∷ moves) zero zero some = absurd (omega (arith, some))
+kept_some (x ∷ moves) (suc n) zero some = absurd (omega (arith, some))
+kept_some (x ∷ moves) zero (suc count) some = omega arith
+kept_some (x ∷ moves) (suc n) (suc count) some = let h = kept_some moves n count some in omega (arith, h)
+
 -- and those after it
 pub kept_fewer : (xs : List Move) (n : ℕ) → drop (n + 1) xs ≡ drop 1 (drop n xs)
 kept_fewer [] zero = refl

@@ -1,4 +1,5 @@
 pub mod SiteTimes
+pub mod Middles
 pub mod DelayLines
 pub mod Greatest
 pub mod Drawn

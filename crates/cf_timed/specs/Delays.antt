@@ -1,12 +1,13 @@
 -- The delays of a timed run: the fewest and the most ticks, for each kind of move and for each class that is executed,
 -- launched or recovered (a format of this project).
-use Rattle.std.specs.Prelude.{◌≡◌, ℕ, ◌+◌, ◌≤◌, List, length, slice_get, unwrap_or, All}
+use Rattle.std.specs.Prelude.{◌≡◌, ℕ, ◌+◌, ◌≤◌, List, None, length, map, slice_get, unwrap_or, All}
 use Rattle.rv_inst.specs.declared.classes.Class.{Class}
 use Rattle.rv_inst.specs.declared.classes.Class.TheVariants.{Add, Logic, Shift, Compare, Branch, Jump, Memory, Serial, Free, Mul, Div}
 use Rattle.cf_bind.specs.declared.moves.Move.{Move}
 use Rattle.cf_bind.specs.declared.moves.Move.TheVariants.{Execute, Launch, Recover}
 use Rattle.cf_index.specs.Order.{kind_place}
 use Rattle.cf_timed.specs.declared.span.Span.{Span}
+use Rattle.cf_timed.specs.Drawing.{ticks_in}
 
 -- 1 to 1,000 ticks
 abbrev pub IsSpan : Span → Type 0
@@ -24,6 +25,10 @@ span_count = 41
 pub record AreDelays (spans : List Span) : Type 0 where
   pub count : length spans ≡ span_count
   pub each : All IsSpan spans
+
+-- the middle of each range
+unfoldable pub middles_of : List Span → List ℕ
+middles_of spans = map (λ span. ticks_in span None) spans
 
 -- the index for a class: `first` is that of the first class of its kind; a class that is not computed has that of the
 -- kind

@@ -92,8 +92,11 @@ impl Clock {
         ensures delay { result ≡ delay_by (clocked self.now core.now.state) mv }
         ensures few { result ≤ 1000 }
     {
-        let span = self.delays.of(mv, class_at(core, mv));
-        u64::from(span.ticks(self.draws.next_word(mv)))
+        let class = class_at(core, mv);
+        match self.draws.next_word(mv) {
+            Some(word) => u64::from(self.delays.of(mv, class).ticks(Some(word))),
+            None => self.delays.middle(mv, class),
+        }
     }
 
     /// When the move finishes if it is made now, capped at the maximum `u64`.

@@ -1,8 +1,9 @@
 //! How many ticks each kind of move takes.
 
-ghost use Rattle.std.specs.Prelude.{◌≡◌, ◌<◌, ◌≤◌, All, IfSome};
+ghost use Rattle.std.specs.Prelude.{◌≡◌, ◌<◌, ◌≤◌, All, IfSome, None};
 ghost use Rattle.cf_index.specs.Order.{kind_place};
-ghost use Rattle.cf_timed.specs.Delays.{AreDelays, IsSpan, class_slot, slot_of, span_count, span_of};
+ghost use Rattle.cf_timed.specs.Delays.{AreDelays, IsSpan, class_slot, middles_of, slot_of, span_count, span_of};
+ghost use Rattle.cf_timed.specs.Drawing.{ticks_in};
 ghost use Rattle.cf_timed.specs.DelayLines.{filled, kind_of_slot, span_told};
 
 use crate::span::Span;
@@ -15,20 +16,25 @@ use std::marker::Model;
 #[derive(Clone, Copy)]
 pub struct Delays {
     spans: [Span; 41],
+    /// The middle of each range.
+    middles: [u64; 41],
 }
 
 impl Model for Delays {
-    ghost use Rattle.std.specs.Prelude.{List};
-    ghost use Rattle.cf_timed.specs.Delays.{AreDelays};
+    ghost use Rattle.std.specs.Prelude.{◌≡◌, List};
+    ghost use Rattle.std.proofs.Common.{ap, sym};
+    ghost use Rattle.cf_timed.specs.Delays.{AreDelays, middles_of};
     ghost use Rattle.cf_timed.specs.declared.span.Span.{Span};
 
     ghost Value = { List Span };
 
     ghost view = { λ d. d.spans };
 
-    ghost invariant = { λ d. AreDelays d.spans };
+    ghost invariant = { λ d. AreDelays d.spans × (d.middles ≡ middles_of d.spans) };
 
-    ghost inverse = { λ spans. record { spans = spans } };
+    ghost inverse = { λ spans. record { spans = spans; middles = middles_of spans } };
+
+    ghost inverse_ok = { λ d h. ap (λ middles. record { spans = d.spans; middles = middles }) (sym h.1) };
 }
 
 /// The index of the move's kind among the kinds.
@@ -132,6 +138,19 @@ fn span_told(told: &[Option<Span>; 41], slot: usize) -> Span
     }
 }
 
+/// The middle of each range.
+#[tactic(auto, unfolding(crate::specs::Delays::middles_of))]
+fn middles_of(spans: &[Span; 41]) -> [u64; 41]
+    requires { All IsSpan spans.now }
+    ensures { result ≡ middles_of spans.now }
+{
+    let mut middles = [0; 41];
+    for slot in 0..41 {
+        middles[slot] = u64::from(spans[slot].ticks(None));
+    }
+    middles
+}
+
 impl Delays {
     /// The delays that were given. A class for which none was given has that of its kind, and a kind for which none was
     /// given takes one tick.
@@ -144,7 +163,8 @@ impl Delays {
         for slot in 0..41 {
             spans[slot] = span_told(told, slot);
         }
-        Delays { spans }
+        let middles = middles_of(&spans);
+        Delays { spans, middles }
     }
 
     /// Invariant: each range is within 1 to 1,000 ticks. The function does nothing.
@@ -162,5 +182,15 @@ impl Delays {
         ensures is_span { IsSpan result }
     {
         self.spans[slot_of(mv, class)]
+    }
+
+    /// The middle of that range.
+    #[inline(always)]
+    #[tactic(auto, unfolding(crate::specs::Delays::span_of))]
+    pub(crate) fn middle(&self, mv: Move, class: Class) -> u64
+        ensures middle { result ≡ ticks_in (span_of self.now mv class) None }
+        ensures few { result ≤ 1000 }
+    {
+        self.middles[slot_of(mv, class)]
     }
 }

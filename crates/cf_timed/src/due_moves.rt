@@ -1,6 +1,6 @@
 //! The moves that are due at one time, kept while they are made one after another.
 
-ghost use Rattle.std.specs.Prelude.{◌≡◌, MatchOption, None, Some, slice_get};
+ghost use Rattle.std.specs.Prelude.{◌≡◌, ◌<◌, MatchOption, None, Some, length, slice_get};
 ghost use Rattle.cf_timed.specs.DueMoves.{kept_after, none_kept, without_first};
 
 use cf_bind::Move;
@@ -63,13 +63,12 @@ impl DueMoves {
 
     /// Leaves out the first of the moves.
     #[inline(always)]
-    #[tactic(auto, using(crate::proofs::KeptLists::kept_fewer, crate::proofs::KeptLists::kept_none))]
+    #[tactic(auto, using(crate::proofs::KeptLists::kept_fewer, crate::proofs::KeptLists::kept_some))]
     pub(crate) fn skip(&mut self)
+        requires { 0 < length self.old.moves }
         ensures { self.new ≡ without_first self.old }
     {
-        if self.next < self.count {
-            self.next += 1;
-        }
+        self.next += 1;
     }
 
     /// Leaves out all moves.

@@ -63,7 +63,15 @@ impl Clock {
     {
         match self.soonest(core, pace.rule(), pace.held(), kept) {
             Some(due) => due,
-            None => self.earliest_filled(core, candidates, pace),
+            None => {
+                // Its fields are copied one by one, so that what is picked as a rule need not go through memory.
+                let filled = self.earliest_filled(core, candidates, pace);
+                Due {
+                    mv: filled.mv,
+                    delay: filled.delay,
+                    time: filled.time,
+                }
+            }
         }
     }
 

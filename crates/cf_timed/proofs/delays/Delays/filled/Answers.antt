@@ -15,8 +15,14 @@ loop-slot-preserved c =
       count = set_length c.loop-slot.spans c.loop-slot.slot c.span_told.result ∙ size;
     }
 
+pub middles_of-middles-requires : goal.middles_of-middles-requires
+middles_of-middles-requires c =
+    let all : c.loop-slot.slot ≡ span_count = omega arith in
+    let same : take span_count c.loop-slot.spans ≡ map (span_told c.args.told.now) (counted_from 0 span_count) = rw all at c.loop-slot.invariant.filled in
+    (filled_delays c.args.told.now c.loop-slot.spans c.loop-slot.invariant.count same c.requires).each
+
 pub invariant_of-result : goal.invariant_of-result
 invariant_of-result c =
     let all : c.loop-slot.slot ≡ span_count = omega arith in
     let same : take span_count c.loop-slot.spans ≡ map (span_told c.args.told.now) (counted_from 0 span_count) = rw all at c.loop-slot.invariant.filled in
-    filled_delays c.args.told.now c.loop-slot.spans c.loop-slot.invariant.count same c.requires
+    (filled_delays c.args.told.now c.loop-slot.spans c.loop-slot.invariant.count same c.requires, c.middles_of-middles.ensures)
