@@ -74,10 +74,10 @@ impl Clock {
         ensures some { IfSome result (λ due. IsIssueBy (clocked self.now core.now.state) (unheld_issues held rule core.now.plan core.now.state) by due) }
         ensures none { result ≡ None → AreLater (clocked self.now core.now.state) (unheld_issues held rule core.now.plan core.now.state) by }
     {
-        if held {
+        if issues_none(core) {
             return None;
         }
-        if issues_none(core) {
+        if held {
             return None;
         }
         let next = self.timed(core, Move::Issue(Guess::Next));
