@@ -29,13 +29,6 @@ use cf_report::Tally;
 use cf_run::{Ran, Reporting, Show, known, make_and_show, over};
 use cf_sched::Pace;
 
-/// What a run keeps from one move to the next: its pace, and the moves that are due.
-#[derive(Drop)]
-struct Course {
-    pace: Pace,
-    kept: DueMoves,
-}
-
 /// Makes the move that finishes earliest, or returns why the run stops. Nothing is shown to the watcher yet.
 // It takes the watcher so that each kind of run has a function of its own for a move, which is inlined in its loop.
 #[inline(always)]
@@ -44,7 +37,8 @@ fn advance<W: Watcher, S: Source, K: Sink>(
     core: &mut Core,
     candidates: &mut Candidates,
     clock: &mut Clock,
-    course: &mut Course,
+    pace: &mut Pace,
+    kept: &mut DueMoves,
     limit: u64,
     input: &mut S,
     output: &mut K,
@@ -52,18 +46,18 @@ fn advance<W: Watcher, S: Source, K: Sink>(
 ) -> Result<TimedStep, Ran>
     requires limit { limit + 1 < 2 ^ 64 }
     requires retired { core.old.state.retired ≤ limit }
-    requires stages { course.old.pace.stages ≡ core.old.plan.stages }
-    requires some { core.old.state.ending ≡ None → 0 < length (offered_by course.old.pace.rule core.old.plan course.old.pace.count core.old.state) }
+    requires stages { pace.old.stages ≡ core.old.plan.stages }
+    requires some { core.old.state.ending ≡ None → 0 < length (offered_by pace.old.rule core.old.plan pace.old.count core.old.state) }
     requires counts { CanCount tally.old }
     requires clock { IsClockOf core.old.plan clock.old }
-    requires due { core.old.state.ending ≡ None → AreDue core.old.plan (clocked clock.old core.old.state) course.old.kept }
-    ensures turns { TurnsTimed limit course.old.pace.rule
+    requires due { core.old.state.ending ≡ None → AreDue core.old.plan (clocked clock.old core.old.state) kept.old }
+    ensures turns { TurnsTimed limit pace.old.rule
         (run_place_of core.old (streams_of (S.left input.old) (K.written output.old)) None tally.old)
         (run_place_of core.new (streams_of (S.left input.new) (K.written output.new)) None tally.new)
-        course.old.pace.count course.new.pace.count clock.old clock.new result }
-    ensures due { IfOk result (λ step. core.new.state.ending ≡ None → AreDue core.new.plan (clocked clock.new core.new.state) course.new.kept) }
-    ensures rule { course.new.pace.rule ≡ course.old.pace.rule }
-    ensures stages { course.new.pace.stages ≡ course.old.pace.stages }
+        pace.old.count pace.new.count clock.old clock.new result }
+    ensures due { IfOk result (λ step. core.new.state.ending ≡ None → AreDue core.new.plan (clocked clock.new core.new.state) kept.new) }
+    ensures rule { pace.new.rule ≡ pace.old.rule }
+    ensures stages { pace.new.stages ≡ pace.old.stages }
     ensures input { HasCause (S.faults input.old) (S.faults input.new) (input_stopped (stop_of result)) }
     ensures output { HasCause (K.faults output.old) (K.faults output.new) (output_stopped (stop_of result)) }
 {
@@ -72,7 +66,7 @@ fn advance<W: Watcher, S: Source, K: Sink>(
     }
     let _layout = core.layout();
     clock.known();
-    let due = clock.earliest(core, candidates, &course.pace, &mut course.kept);
+    let due = clock.earliest(core, candidates, &*pace, kept);
     let done = TimedMove {
         mv: due.mv,
         delay: due.delay,
@@ -91,9 +85,9 @@ fn advance<W: Watcher, S: Source, K: Sink>(
         tally,
     ) {
         Ok(event) => {
-            course.pace.saw(due.mv, &event, core.drained());
+            pace.saw(due.mv, &event, core.drained());
             clock.stamp(due.mv, due.time);
-            course.kept.made(due.mv, due.time);
+            kept.made(due.mv, due.time);
             Ok(TimedStep { event, done })
         }
         Err(ran) => Err(ran),
@@ -143,9 +137,8 @@ pub fn run_watched<W: Watcher, S: Source, K: Sink, R: Sink>(
 {
     known(core);
     clock.known();
-    let kept = DueMoves::new();
-    let pace = Pace::new(options.rule, core.layout().stages());
-    let mut course = Course { pace, kept };
+    let mut kept = DueMoves::new();
+    let mut pace = Pace::new(options.rule, core.layout().stages());
     let mut tally = Tally {
         moves: 0,
         meets: 0,
@@ -158,7 +151,8 @@ pub fn run_watched<W: Watcher, S: Source, K: Sink, R: Sink>(
             core,
             candidates,
             clock,
-            &mut course,
+            &mut pace,
+            &mut kept,
             options.limit,
             input,
             output,

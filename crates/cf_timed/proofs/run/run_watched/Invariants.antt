@@ -18,10 +18,10 @@ invariant-loop-step g l =
     record {
       comes : ComesWatched g.W.Watcher.noted g.W.Watcher.text l.options.rule (rule_of_clock l.initial.clock) l.options.limit start now l.clock l.initial.watcher
           l.watcher
-          (reported l.initial.report) (reported l.report) l.course.pace.count;
-      rule : l.course.pace.rule ≡ l.options.rule;
-      stages : l.course.pace.stages ≡ l.core.plan.stages;
-      due : l.core.state.ending ≡ None → AreDue l.core.plan (clocked l.clock l.core.state) l.course.kept;
+          (reported l.initial.report) (reported l.report) l.pace.count;
+      rule : l.pace.rule ≡ l.options.rule;
+      stages : l.pace.stages ≡ l.core.plan.stages;
+      due : l.core.state.ending ≡ None → AreDue l.core.plan (clocked l.clock l.core.state) l.kept;
       within : l.core.state.retired ≤ l.options.limit;
       input : g.S.Source.faults l.input ≡ g.S.Source.faults l.initial.input;
       output : g.K.Sink.faults l.output ≡ g.K.Sink.faults l.initial.output;
