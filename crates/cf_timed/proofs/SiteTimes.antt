@@ -1,5 +1,5 @@
 -- The times of sites, with one more site and with one time set.
-use Rattle.std.proofs.Common.{◌≡◌, ◌∙◌, refl, ap, ℕ, zero, suc, ◌+◌, ◌≤◌, List, [], ◌∷◌, ◌++◌, length, get_or, map, max, Bool, true, false, cond, arith}
+use Rattle.std.proofs.Common.{◌≡◌, ◌∙◌, refl, sym, ap, ℕ, zero, suc, ◌+◌, ◌≤◌, List, [], ◌∷◌, ◌++◌, length, get_or, map, max, Bool, true, false, cond, arith}
 use Rattle.std.specs.Prelude.{filter, replicate, slice_set}
 use Rattle.cf_layout.specs.Layout.{Plan}
 use Rattle.std.proofs.lemmas.Option.{unwrap_or-slice_get}
@@ -13,6 +13,10 @@ use Rattle.cf_timed.specs.Times.{greatest}
 use Rattle.cf_timed.specs.DelayedRuns.{DelayRule}
 use Rattle.cf_timed.specs.Numbers.{number_at}
 use Rattle.cf_timed.specs.Clocks.{NoneLater, SiteTimes, allowed, drawing, put_time, put_times, siding_row, started, time_at}
+
+-- a number by its index
+pub number_read : (numbers : List ℕ) (i : ℕ) → get_or numbers i 0 ≡ number_at numbers i
+number_read numbers i = sym (unwrap_or-slice_get numbers i 0)
 
 -- a row of cells
 pub row-read : (rows : List (List ℕ)) (k : ℕ) → siding_row rows k ≡ get_or rows k []

@@ -56,6 +56,7 @@ impl Clock {
         pace: &Pace,
         kept: &mut DueMoves,
     ) -> Due
+        requires plan { self.now.plan ≡ core.now.plan }
         requires some { 0 < length (offers pace.now core.now.plan core.now.state) }
         requires due { AreDue core.now.plan (clocked self.now core.now.state) kept.old }
         ensures soonest { IsSoonest (clocked self.now core.now.state) (offers pace.now core.now.plan core.now.state) result }
@@ -85,6 +86,7 @@ impl Clock {
         pace: &Pace,
         kept: &mut DueMoves,
     ) -> Due
+        requires plan { self.now.plan ≡ core.now.plan }
         requires stages { pace.now.stages ≡ core.now.plan.stages }
         requires some { 0 < length (offered_by pace.now.rule core.now.plan pace.now.count core.now.state) }
         requires due { AreDue core.now.plan (clocked self.now core.now.state) kept.old }

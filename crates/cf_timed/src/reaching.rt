@@ -5,7 +5,7 @@ ghost use Rattle.cf_semantics.specs.moves.Sites.{SidingCell, Stage};
 ghost use Rattle.cf_semantics.specs.state.Layouts.{port as port_of};
 ghost use Rattle.cf_index.specs.Sites.{used, way_out, ways_in, ways_out};
 ghost use Rattle.cf_timed.specs.Times.{greatest};
-ghost use Rattle.cf_timed.specs.Clocks.{time_at};
+ghost use Rattle.cf_timed.specs.Clocks.{AreKept, IsKept, time_at};
 ghost use Rattle.cf_timed.specs.Numbers.{number_at};
 
 use crate::clock::Clock;
@@ -138,17 +138,32 @@ impl Clock {
         self.reach(*mv)
     }
 
-    /// The same as `reach` for a move of whatever kind.
+    /// The time of a stage that the clock keeps.
+    #[inline(always)]
+    #[tactic(auto, using(crate::proofs::SiteTimes::number_read))]
+    fn kept_stage(&self, i: usize) -> u64
+        requires { IsKept (Stage i) }
+        ensures { result ≡ time_at self.now (Stage i) }
+    {
+        self.stages[i]
+    }
+
+    /// The same as `reach` for a move of whatever kind, if the clock keeps the times of its sites.
     // A loop over moves would first read the times of all sites that it may need; so those of the rarer kinds are read
     // by a call.
     #[inline(always)]
-    pub(crate) fn reach_any(&self, mv: &Move) -> u64
+    pub(crate) fn reach_kept(&self, mv: &Move) -> u64
+        requires { AreKept self.now.plan mv.now }
         ensures { result ≡ greatest (map (time_at self.now) (used self.now.plan mv.now)) }
     {
         match *mv {
-            Move::Climb(_) | Move::Fall(_) | Move::Meet(_) | Move::Execute(_) | Move::Send(_) => {
-                self.reach(*mv)
-            }
+            Move::Climb(i) => self
+                .kept_stage(i as usize)
+                .max(self.kept_stage(i as usize + 1)),
+            Move::Fall(i) => self
+                .kept_stage(i as usize)
+                .max(self.kept_stage(i.saturating_sub(1) as usize)),
+            Move::Meet(i) | Move::Execute(i) | Move::Send(i) => self.kept_stage(i as usize),
             Move::Issue(_)
             | Move::Emit
             | Move::Launch(_)

@@ -109,6 +109,7 @@ impl Clock {
     /// The first of the kept moves that is still due; those before it are left out.
     #[inline(always)]
     fn first_kept(&self, core: &Core, kept: &mut DueMoves) -> Option<Due>
+        requires plan { self.now.plan ≡ core.now.plan }
         requires due { AreDue core.now.plan (clocked self.now core.now.state) kept.old }
         ensures due { AreDue core.now.plan (clocked self.now core.now.state) kept.new }
         ensures first { IfSome result (λ due. IsFirstDue (clocked self.now core.now.state) kept.new due) }
@@ -118,7 +119,7 @@ impl Clock {
         let _core = core;
         while let Some(mv) = kept.first() {
             let time = kept.time();
-            let begin = self.reach_any(mv);
+            let begin = self.reach_kept(mv);
             if begin < time {
                 return Some(Due {
                     mv: *mv,
@@ -134,6 +135,7 @@ impl Clock {
     /// The first of the moves that a look finds.
     #[inline(always)]
     fn first_looked(&self, core: &Core, kept: &mut DueMoves) -> Option<Due>
+        requires plan { self.now.plan ≡ core.now.plan }
         ensures due { AreDue core.now.plan (clocked self.now core.now.state) kept.new }
         ensures first { IfSome result (λ due. IsFirstDue (clocked self.now core.now.state) kept.new due) }
     {
@@ -144,6 +146,7 @@ impl Clock {
     /// The first of the allowed moves other than Issue that finish earliest: of those that are kept, if one is still due.
     #[inline(always)]
     fn first_due(&self, core: &Core, kept: &mut DueMoves) -> Option<Due>
+        requires plan { self.now.plan ≡ core.now.plan }
         requires due { AreDue core.now.plan (clocked self.now core.now.state) kept.old }
         ensures due { AreDue core.now.plan (clocked self.now core.now.state) kept.new }
         ensures first { IfSome result (λ due. IsFirstDue (clocked self.now core.now.state) kept.new due) }
@@ -184,6 +187,7 @@ impl Clock {
         held: bool,
         kept: &mut DueMoves,
     ) -> Option<Due>
+        requires plan { self.now.plan ≡ core.now.plan }
         requires due { AreDue core.now.plan (clocked self.now core.now.state) kept.old }
         ensures left { IfSome result (λ due. IsLeft core.now.plan (clocked self.now core.now.state) kept.new due.mv) }
         ensures due { result ≡ None → AreDue core.now.plan (clocked self.now core.now.state) kept.new }
