@@ -1,6 +1,8 @@
 //! Reading the times of the sites that a move uses.
 
 ghost use Rattle.std.specs.Prelude.{◌≡◌, ◌+◌, ◌-◌, ◌<◌, ◌^◌, if◌then◌else◌, map};
+ghost use Rattle.cf_bind.specs.declared.passenger.Guess.TheVariants as guesses;
+ghost use Rattle.cf_bind.specs.declared.moves.Move.TheVariants as mv;
 ghost use Rattle.cf_semantics.specs.moves.Sites.{SidingCell, Stage};
 ghost use Rattle.cf_semantics.specs.state.Layouts.{port as port_of};
 ghost use Rattle.cf_index.specs.Sites.{used, way_out, ways_in, ways_out};
@@ -104,6 +106,14 @@ impl Clock {
         self.cell(k, c)
     }
 
+    /// The maximum time of the sites that an Issue uses, whatever it guesses.
+    #[inline(always)]
+    pub(crate) fn reach_issue(&self) -> u64
+        ensures { result ≡ greatest (map (time_at self.now) (used self.now.plan (mv.Issue guesses.Next))) }
+    {
+        self.stage(1).max(self.lane).max(self.fetch).max(self.code)
+    }
+
     /// The maximum time of the sites that the move uses.
     #[inline(always)]
     pub(crate) fn reach(&self, mv: Move) -> u64
@@ -111,7 +121,7 @@ impl Clock {
     {
         let top = self.layout().stages() as usize;
         match mv {
-            Move::Issue(_) => self.stage(1).max(self.lane).max(self.fetch).max(self.code),
+            Move::Issue(_) => self.reach_issue(),
             Move::Emit => self.stage(top).max(self.lane),
             Move::Climb(i) => self.stage(i as usize).max(self.stage(i as usize + 1)),
             Move::Fall(i) => self

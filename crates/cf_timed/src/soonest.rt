@@ -3,6 +3,8 @@
 ghost use Rattle.std.specs.Prelude.{◌≡◌, ◌-◌, ◌≤◌, ◌^◌, Bool, IfSome, None, [], slice_get, true};
 ghost use Rattle.std.specs.List.{AllByRecursion};
 ghost use Rattle.run_options.specs.declared.guess_rule.GuessRule.{GuessRule as Rule};
+ghost use Rattle.cf_bind.specs.declared.passenger.Guess.TheVariants as guesses;
+ghost use Rattle.cf_bind.specs.declared.moves.Move.TheVariants as mv;
 ghost use Rattle.cf_index.specs.Allowed.{allowed_others, kept_issues, unheld_issues, withheld};
 ghost use Rattle.cf_index.specs.GuessRules.{guided};
 ghost use Rattle.cf_timed.specs.Clocks.{capped, clocked};
@@ -65,6 +67,23 @@ impl Clock {
         }
     }
 
+    /// The same for an Issue that guesses the next instruction.
+    // The sites of no other kind of move are read, so that it stays small.
+    #[inline(always)]
+    #[tactic(auto, unfolding(crate::specs::Clocks::finish_time))]
+    fn timed_issue(&self, core: &Core) -> Due
+        ensures mv { result.mv ≡ mv.Issue guesses.Next }
+        ensures timed { IsTimed (clocked self.now core.now.state) result }
+    {
+        let mv = Move::Issue(Guess::Next);
+        let delay = self.delay(core, mv);
+        Due {
+            mv,
+            delay,
+            time: self.reach_issue().saturating_add(delay),
+        }
+    }
+
     /// The first Issue that is allowed, kept by the guess rule and not held back, if it finishes by this time. The
     /// search is made only if an Issue would finish by then, since it has to decode an instruction; all Issues use the
     /// same sites. No time is computed if the lowest stage has an instruction, or if fetch waits.
@@ -80,7 +99,7 @@ impl Clock {
         if held {
             return None;
         }
-        let next = self.timed(core, Move::Issue(Guess::Next));
+        let next = self.timed_issue(core);
         if by < next.time {
             return None;
         }

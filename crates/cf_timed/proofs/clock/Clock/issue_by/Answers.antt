@@ -15,10 +15,10 @@ returns-then-issues_none-clause-none c = λ none.
 pub returns-then-by-next-clause-none : goal.returns-then-by-next-clause-none
 returns-then-by-next-clause-none c = λ none.
     none_sooner (clocked c.args.self.now c.args.core.now.state) c.args.rule c.args.core.now.plan c.args.core.now.state c.args.held c.args.by
-    c.timed-next.result.time
-    (c.timed-next.ensures.timed.time ∙ ap (capped (clocked c.args.self.now c.args.core.now.state)) c.timed-next.ensures.mv) c.if-by-next.true
+    c.timed_issue-next.result.time
+    (c.timed_issue-next.ensures.timed.time ∙ ap (capped (clocked c.args.self.now c.args.core.now.state)) c.timed_issue-next.ensures.mv) c.if-by-next.true
 
 pub returns-in-Some-clause-some : goal.returns-in-Some-clause-some
 returns-in-Some-clause-some c = issue_there (clocked c.args.self.now c.args.core.now.state) c.args.rule c.args.core.now.plan c.args.core.now.state c.args.held
     c.args.by
-    c.timed-next.result c.in-Some.mv c.timed-next.ensures.mv c.timed-next.ensures.timed c.if-held.false c.if-by-next.false c.in-Some.ensures
+    c.timed_issue-next.result c.in-Some.mv c.timed_issue-next.ensures.mv c.timed_issue-next.ensures.timed c.if-held.false c.if-by-next.false c.in-Some.ensures
