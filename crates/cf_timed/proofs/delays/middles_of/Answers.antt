@@ -1,7 +1,6 @@
-use Rattle.std.proofs.Common.{◌≡◌, ◌∙◌, ap, map, take, arith, refl, sym, None}
+use Rattle.std.proofs.Common.{◌≡◌, ◌∙◌, map, take, arith}
 use Rattle.cf_semantics.specs.moves.Candidates.{counted_from}
 use Rattle.cf_timed.specs.Delays.{span_count}
-use Rattle.cf_timed.specs.Drawing.{ticks_in}
 use Rattle.cf_timed.proofs.Middles.{middle_of, middles_all}
 use Rattle.cf_timed.proofs.Numbered.{filled_next, set_length}
 use Rattle.cf_timed.proofs.delays.middles_of.Goals as goal

@@ -1,7 +1,7 @@
-use Rattle.std.proofs.Common.{◌≡◌, ◌∙◌, ◌<◌, ◌≤◌, ap, sym, refl, ℕ, List, None, length, slice_index_or, arith}
+use Rattle.std.proofs.Common.{◌∙◌, ap, ℕ, List, None, slice_index_or, arith}
 use Rattle.std.specs.Prelude.{slice_get, unwrap_or}
 use Rattle.cf_timed.specs.declared.span.Span.{Span}
-use Rattle.cf_timed.specs.Delays.{middles_of, one_tick, slot_of, span_of}
+use Rattle.cf_timed.specs.Delays.{one_tick, slot_of, span_of}
 use Rattle.cf_timed.specs.Drawing.{ticks_in}
 use Rattle.cf_timed.proofs.Delaying.{is_span, ticks_few}
 use Rattle.cf_timed.proofs.Middles.{middle_at}
