@@ -43,7 +43,8 @@ impl Model for Processor {
 
     ghost view = { λ p. record { plan = p.layout; state = record { cells = p.stages; sidings = p.sidings; lane = p.ends.lane; fetch = p.ends.fetch; cache = p.ends.cache; regs = p.ends.regs; mem = p.memory; retired = p.retired; ending = p.ending; failed = p.failed } } };
 
-    ghost invariant = { λ p. (p.ends.room ≡ p.layout.lane) × ((p.stations ≡ stations_of p.layout) × ((p.isa ≡ isa_of p.layout) × AreTemplates p.isa p.memory p.templates)) };
+    ghost invariant = { λ p. (p.ends.room ≡ p.layout.lane) × ((p.stations ≡ stations_of p.layout) ×
+        ((p.isa ≡ isa_of p.layout) × AreTemplates p.isa p.memory p.templates)) };
 }
 
 impl Processor {
