@@ -4,32 +4,14 @@ ghost use Rattle.std.specs.Prelude.{◌≡◌, ◌<◌, ◌≤◌, None};
 ghost use Rattle.cf_bind.specs.declared.moves.Move.TheVariants as mv;
 ghost use Rattle.cf_semantics.specs.moves.Bars.{row_bar};
 ghost use Rattle.cf_core.specs.Marks.{row_allows, marks_of, keeps_marks as keeps_all};
-ghost use Rattle.cf_core.specs.Masks.{rides, stops_there};
+ghost use Rattle.cf_core.specs.Masks.{stops_there};
 ghost use Rattle.cf_core.specs.Processors.{IsProcessor};
-ghost use Rattle.cf_core.specs.Riders.{is_spent as has_done_all};
 
 use crate::marks::Marks;
 use crate::processor::Processor;
-use crate::riding::is_spent;
-use cf_bind::Move;
 use cf_stages::has_bit;
 
 impl Processor {
-    /// Whether an instruction is in the stage and has nothing left to do but to climb and to leave.
-    #[inline(always)]
-    fn is_spent_at(&self, i: u32) -> bool
-        requires above { 0 < i }
-        requires within { i ≤ self.now.plan.stages }
-        requires facts { IsProcessor self.now.plan self.now.state }
-        ensures { result ≡ rides self.now.state i has_done_all }
-    {
-        self.know_stages();
-        match self.stages.passenger(i) {
-            Some(passenger) => is_spent(passenger),
-            None => false,
-        }
-    }
-
     /// Whether no test in the row of Launch bars the stage, by the marks.
     #[inline(always)]
     #[tactic(auto, using(crate::proofs::StillMarks::launch_bits))]
@@ -56,26 +38,39 @@ impl Processor {
         has_bit(marks.stops, i)
     }
 
-    /// Whether an allowed move leaves the marks of all stages as they are. Most moves do: the moves of an instruction
-    /// that has nothing left to do; a meeting with a value, if the instruction still waits for another, or if it waits for
-    /// none and may climb on; and the moves of a result. But a result that comes to a stage with an operation to launch may
-    /// bar the launch.
+    /// Whether an allowed Meet leaves the marks of all stages as they are: the instruction has nothing left to do, or still waits for
+    /// another value, or waits for none and may climb on.
     #[inline(always)]
-    #[tactic(auto, using(crate::proofs::Sites::moving, crate::proofs::moves::Meetings::allowed_full), unfolding(crate::specs::Marks::keeps_marks))]
-    pub(crate) fn keeps_marks(&self, marks: Marks, m: Move) -> bool
+    #[tactic(auto, using(crate::proofs::Sites::moving, crate::proofs::moves::Meetings::allowed_full))]
+    pub(crate) fn meet_keeps(&self, marks: Marks, i: u32) -> bool
         requires facts { IsProcessor self.now.plan self.now.state }
-        requires allowed { row_bar self.now.plan self.now.state m ≡ None }
+        requires allowed { row_bar self.now.plan self.now.state (mv.Meet i) ≡ None }
         requires marks { marks ≡ marks_of self.now.plan self.now.state }
-        ensures { result ≡ keeps_all self.now.plan self.now.state m }
+        ensures { result ≡ keeps_all self.now.plan self.now.state (mv.Meet i) }
     {
-        match m {
-            Move::Climb(i) => self.is_spent_at(i),
-            Move::Meet(i) => self.keeps_in_meeting(i, self.stops_by(marks, i)),
-            Move::Fall(i) => !self.launches_at(marks, i - 1),
-            Move::Emit => !self.launches_at(marks, self.stages.count()),
-            Move::Leave | Move::Exit => true,
-            Move::Issue(_) | Move::Execute(_) | Move::Send(_) | Move::Launch(_) => false,
-            Move::Slide(_, _) | Move::Access | Move::Recover(_) | Move::Serve => false,
-        }
+        self.keeps_in_meeting(i, self.stops_by(marks, i))
+    }
+
+    /// Whether an allowed Fall leaves the marks of all stages as they are: no operation can be launched from the stage below.
+    #[inline(always)]
+    #[tactic(auto, using(crate::proofs::Sites::moving), unfolding(crate::specs::Marks::keeps_marks))]
+    pub(crate) fn fall_keeps(&self, marks: Marks, i: u32) -> bool
+        requires facts { IsProcessor self.now.plan self.now.state }
+        requires allowed { row_bar self.now.plan self.now.state (mv.Fall i) ≡ None }
+        requires marks { marks ≡ marks_of self.now.plan self.now.state }
+        ensures { result ≡ keeps_all self.now.plan self.now.state (mv.Fall i) }
+    {
+        !self.launches_at(marks, i - 1)
+    }
+
+    /// Whether an Emit leaves the marks of all stages as they are: no operation can be launched from the highest stage.
+    #[inline(always)]
+    #[tactic(auto, unfolding(crate::specs::Marks::keeps_marks))]
+    pub(crate) fn emit_keeps(&self, marks: Marks) -> bool
+        requires facts { IsProcessor self.now.plan self.now.state }
+        requires marks { marks ≡ marks_of self.now.plan self.now.state }
+        ensures { result ≡ keeps_all self.now.plan self.now.state mv.Emit }
+    {
+        !self.launches_at(marks, self.stages.count())
     }
 }

@@ -69,7 +69,7 @@ impl Processor {
         ensures event { IsEvent self.old.plan self.old.state (mv.Meet i) result }
         ensures marks { marks.new ≡ marks_of self.new.plan self.new.state }
     {
-        let keeps = self.keeps_marks(*marks, Move::Meet(i));
+        let keeps = self.meet_keeps(*marks, i);
         let event = self.meet(i);
         if keeps {
             return event;
@@ -87,7 +87,7 @@ impl Processor {
         ensures processor { self.new ≡ after_move self.old (mv.Fall i) }
         ensures marks { marks.new ≡ marks_of self.new.plan self.new.state }
     {
-        let keeps = self.keeps_marks(*marks, Move::Fall(i));
+        let keeps = self.fall_keeps(*marks, i);
         self.fall(i);
         if !keeps {
             self.mark_beside_result(marks, i - 1);
@@ -103,7 +103,7 @@ impl Processor {
         ensures processor { self.new ≡ after_move self.old mv.Emit }
         ensures marks { marks.new ≡ marks_of self.new.plan self.new.state }
     {
-        let keeps = self.keeps_marks(*marks, Move::Emit);
+        let keeps = self.emit_keeps(*marks);
         let top = self.stages.count();
         self.emit();
         if !keeps {

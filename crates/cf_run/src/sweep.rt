@@ -280,8 +280,8 @@ pub(crate) fn sweep_once<T: OnceKind>(
     }
 }
 
-/// Makes the moves of Emit and of each kind over the stages that the rule picks one after another, and answers its last pick. At first
-/// the rule picks the first move that is allowed of Emit and of the kinds after it.
+/// Makes the moves of Emit and of each kind over the stages that the rule picks one after another, and answers its last pick.
+/// At first the rule picks the first move that is allowed of Emit and of the kinds after it.
 // It is a part of the loop over rounds, of which the caller makes a call.
 #[inline(always)]
 pub(crate) fn sweep_stages(

@@ -19,4 +19,4 @@ returns-then-not-keeps-clause-marks c =
 pub returns-else-not-keeps-clause-marks : goal.returns-else-not-keeps-clause-marks
 returns-else-not-keeps-clause-marks c =
     marks-stay c.args.self.now c.emit.new.self c.args.marks.now Emit c.requires.allowed c.emit.ensures c.requires.marks
-    (sym c.keeps_marks-keeps.ensures ∙ c.if-not-keeps.false)
+    (sym c.emit_keeps-keeps.ensures ∙ c.if-not-keeps.false)

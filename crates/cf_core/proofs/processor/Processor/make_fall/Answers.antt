@@ -17,4 +17,4 @@ returns-then-not-keeps-clause-marks c =
 pub returns-else-not-keeps-clause-marks : goal.returns-else-not-keeps-clause-marks
 returns-else-not-keeps-clause-marks c =
     marks-stay c.args.self.now c.fall.new.self c.args.marks.now (Fall c.args.i) c.requires.allowed c.fall.ensures c.requires.marks
-    (sym c.keeps_marks-keeps.ensures ∙ c.if-not-keeps.false)
+    (sym c.fall_keeps-keeps.ensures ∙ c.if-not-keeps.false)

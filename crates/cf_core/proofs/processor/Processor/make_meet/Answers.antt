@@ -15,7 +15,7 @@ mark_met-requires-clause-here c = meet-there c.args.self.now c.meet-event.new.se
 pub returns-then-keeps-clause-marks : goal.returns-then-keeps-clause-marks
 returns-then-keeps-clause-marks c =
     marks-stay c.args.self.now c.meet-event.new.self c.args.marks.now (Meet c.args.i) c.requires.allowed c.meet-event.ensures.processor
-    c.requires.marks (sym c.keeps_marks-keeps.ensures ∙ c.if-keeps.true)
+    c.requires.marks (sym c.meet_keeps-keeps.ensures ∙ c.if-keeps.true)
 
 pub returns-clause-marks : goal.returns-clause-marks
 returns-clause-marks c =
