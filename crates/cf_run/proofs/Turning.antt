@@ -285,7 +285,8 @@ pub comes-by : {P : Type 0} {picked : P → List Move → ℕ} {onward : P → L
     (first : P) (streams : Streams) (report : Option (List ℕ))
     (now new : PolicyPlace P) (c : HasPicked rule picked onward limit show begin (exposing now streams report) first now.policy now.pace.count) →
     now.pace.rule ≡ rule → LeadsTo picked onward limit show now new → ComesBy picked onward rule limit show begin first streams report now new c
-comes-by rule limit show begin first streams report now new c is led = comes_turns _ _ rule limit show begin first streams report now new led.count c is led.turns
+comes-by rule limit show begin first streams report now new c is led =
+    comes_turns _ _ rule limit show begin first streams report now new led.count c is led.turns
 
 -- What a sweep leaves --
 

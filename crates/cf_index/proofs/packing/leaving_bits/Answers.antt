@@ -10,7 +10,8 @@ flag_small true = omega arith
 flag_small false = omega arith
 
 pub eight_then-requires-clause-stages : goal.eight_then-requires-clause-stages
-eight_then-requires-clause-stages c = few_recovers c.args.core.now.plan c.args.core.now.state c.open_masks-masks.result c.open_masks-masks.ensures c.requires.few
+eight_then-requires-clause-stages c =
+    few_recovers c.args.core.now.plan c.args.core.now.state c.open_masks-masks.result c.open_masks-masks.ensures c.requires.few
 
 pub returns-then-idle-clause-moves : goal.returns-then-idle-clause-moves
 returns-then-idle-clause-moves c =

@@ -18,7 +18,8 @@ invariant-loop-ran g l =
     l.initial.tally in
     let now : RunPlace = run_place_of l.core (streams_of (left l.input) (written l.output)) (reported l.report) l.tally in
     record {
-      comes : HasPicked l.fn.options.rule drawn_pick drawn_after l.fn.options.limit l.fn.options.reporting start now l.initial.drawn l.drawn l.course.pace.count;
+      comes : HasPicked l.fn.options.rule drawn_pick drawn_after l.fn.options.limit l.fn.options.reporting start now
+          l.initial.drawn l.drawn l.course.pace.count;
       options : l.course.options ≡ l.fn.options;
       rule : l.course.pace.rule ≡ l.fn.options.rule;
       stages : l.course.pace.stages ≡ l.core.plan.stages;
