@@ -389,7 +389,7 @@ exit_off plan s barred = rw barred refl
 
 pub ruleset exiting = (exit_here, exit_off)
 
--- what the instruction of the highest stage can do tells which is the first
+-- which is the first follows from what the instruction of the highest stage can do
 leaves_by : (leaves serves : Bool) → top_by leaves serves ≡ at.Leaves → leaves ≡ true
 leaves_by true serves e = refl
 leaves_by false true e = absurd (cc)

@@ -83,7 +83,7 @@ fn leaving_bits(core: &Core, stages: u32, serve: bool, idle: bool) -> u64
 }
 
 /// The bits of all candidates but Issue and Slide, given the number of stages and the bits of those by which something leaves.
-// The masks are read here once more, since those that only these moves need would otherwise be kept until now.
+// The masks are read here again, since those that only these moves need would otherwise be kept until now.
 #[inline(always)]
 fn others(core: &Core, stages: u32, leaves: u64) -> u64
     requires stages { stages ≡ core.now.plan.stages }

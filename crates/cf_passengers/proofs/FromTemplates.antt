@@ -16,7 +16,7 @@ use Rattle.cf_semantics.specs.moves.Instructions.{Fetched, Got, Bad, fetched, ki
 use Rattle.cf_semantics.specs.state.Options.{is_some}
 use Rattle.cf_semantics.specs.state.Passengers.{fresh, fresh_as, fresh_undone}
 use Rattle.cf_passengers.specs.declared.templates.Template.{Template}
-use Rattle.cf_passengers.specs.Templates.{AreTemplates, IsEmpty, IsTemplate, has_template, kept_as, kept_for, no_template, place_at, template_of}
+use Rattle.cf_passengers.specs.Templates.{AreTemplates, IsVacant, IsTemplate, has_template, kept_as, kept_for, no_template, place_at, template_of}
 
 -- what is kept for one memory is right for each memory from which the same is fetched
 pub templates-same : (isa : Isa) (m n : Memory) (places : List Template) → ((pc : ℕ) → fetched isa n pc ≡ fetched isa m pc) →
@@ -25,7 +25,7 @@ unfolding AreTemplates
 templates-same isa m n places same kept = λ k t below small. rw (same _) (kept k t below small)
 
 -- if nothing is kept, all that is kept is right
-pub templates-empty : (isa : Isa) (m : Memory) (places : List Template) → All IsEmpty places → AreTemplates isa m places
+pub templates-empty : (isa : Isa) (m : Memory) (places : List Template) → All IsVacant places → AreTemplates isa m places
 unfolding AreTemplates
 templates-empty isa m places empty = λ k t below small. absurd (omega arith)
 

@@ -34,8 +34,8 @@ kept_for pc (Got i) = kept_as (class_of i) (template_of pc i)
 kept_for pc (Bad e) = None
 
 -- the address of an empty place is beyond all others
-abbrev pub IsEmpty : Template → Type 0
-IsEmpty t = 2 ^ 32 ≤ t.address
+abbrev pub IsVacant : Template → Type 0
+IsVacant t = 2 ^ 32 ≤ t.address
 
 -- what a place has for an address is what is kept of what is fetched there
 abbrev pub IsTemplate : Isa → Memory → Template → Type 0

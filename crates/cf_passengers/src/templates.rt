@@ -9,7 +9,7 @@ ghost use Rattle.cf_semantics.specs.moves.Instructions.{fetched as what_is_fetch
 ghost use Rattle.cf_semantics.specs.state.Options.{is_some};
 ghost use Rattle.cf_semantics.specs.state.Passengers.{fresh_undone, goto as goes_to};
 ghost use Rattle.cf_passengers.specs.Issuing.{meant};
-ghost use Rattle.cf_passengers.specs.Templates.{AreTemplates, IsEmpty, has_template, kept_for, place_at, template_of};
+ghost use Rattle.cf_passengers.specs.Templates.{AreTemplates, IsVacant, has_template, kept_for, place_at, template_of};
 
 use crate::guessing::guessed;
 use crate::issuing::{destination, fetched, source};
@@ -154,7 +154,7 @@ fn fetched_anew(isa: Isa, mem: &Regions, pc: u32) -> Result<Instr, End>
 impl Templates {
     /// No template; or an error if there is no memory for the places.
     pub fn new(alloc: Global) -> Result<Templates, AllocError>
-        ensures { IfOk result (λ templates. All IsEmpty templates) }
+        ensures { IfOk result (λ templates. All IsVacant templates) }
     {
         let mut places = Vec::new(alloc);
         places.resize(PLACES, EMPTY)?;
@@ -163,7 +163,7 @@ impl Templates {
 
     /// Forgets all templates.
     pub fn clear(&mut self)
-        ensures { All IsEmpty self.new }
+        ensures { All IsVacant self.new }
     {
         self.places.fill(EMPTY);
     }

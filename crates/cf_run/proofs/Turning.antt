@@ -44,7 +44,7 @@ use Rattle.cf_run.specs.Made.{CanCount, Made, counted_event, shown}
 use Rattle.cf_run.specs.Moving.{RunPlace, MoveDoes, run_place_of}
 use Rattle.cf_run.specs.Policies.{Turned, chooser, choice, most_moves}
 use Rattle.cf_run.specs.Reaching.{GoesOn, IsOver}
-use Rattle.cf_run.specs.Sweeps.{DrawsTo, HasArrived, HasPicked, IsDrawing, IsSweeping, IsTaken, IsUnderWay, Keeps, LeadsTo, PicksNext, PolicyPlace, RulePlace, SweepsFrom, SweepsOn, SweepsTo, TurnsOnce, TurnsTo, drawn_after, exposing, policy_at, rule_at, silent}
+use Rattle.cf_run.specs.Sweeps.{DrawsTo, HasArrived, HasPicked, IsDrawing, IsSweeping, IsRecorded, RunsQuietly, Keeps, TurnsLead, PicksNext, PolicyPlace, RulePlace, SweepsFrom, SweepsOn, SweepsTo, TurnsOnce, TurnsTo, drawn_after, exposing, policy_at, rule_at, silent}
 use Rattle.cf_run.proofs.ByRule.{ruled-allowed}
 use Rattle.cf_run.proofs.Coming.{asked-comes, comes-bounded, comes-counted, comes-more, comes-offered, seen-count, turned-counted, turned-plan, turned-within}
 use Rattle.cf_run.proofs.Occupied.{same-pace}
@@ -191,7 +191,7 @@ picked_free rule plan count s last m picked = ruled-allowed rule plan count s _ 
 -- once a choice of a policy is made, counted and recorded by the pace, the policy has made one turn
 chosen_turn : {P : Type 0} (picked : P → List Move → ℕ) (onward : P → List Move → P) (limit : ℕ) (now : PolicyPlace P) (core : Processor) (m : Move)
     (later : P) (pace : PaceCount) (tally : Tally) (e : Event) (seen : Bool) →
-    m ≢ mv.Serve → IsUnderWay picked onward limit now →
+    m ≢ mv.Serve → RunsQuietly picked onward limit now →
     choice picked now.core.plan (chooser now.pace.rule now.policy now.pace.count) now.core.state ≡ Some m →
     later ≡ onward now.policy (offered_by now.pace.rule now.core.plan now.pace.count now.core.state) → core ≡ after_move now.core m →
     IsEvent now.core.plan now.core.state m e → tally ≡ counted_event now.tally m e → pace ≡ saw now.pace m e seen → seen ≡ is_drained core.state →
@@ -219,28 +219,28 @@ chosen_turn picked onward limit now core m later pace tally e seen other ready c
 -- Turn after turn --
 
 pub no_turns : {P : Type 0} {picked : P → List Move → ℕ} {onward : P → List Move → P} (limit : ℕ) (show : Reporting) (now : PolicyPlace P) →
-    LeadsTo picked onward limit show now now
+    TurnsLead picked onward limit show now now
 unfolding TurnsTo
 no_turns limit show now = record { count = 0; turns = refl }
 
 one_more_turn : {P : Type 0} {picked : P → List Move → ℕ} {onward : P → List Move → P} (limit : ℕ) (show : Reporting) (now between new : PolicyPlace P) →
-    LeadsTo picked onward limit show now between → TurnsOnce picked onward limit show between new →
-    LeadsTo picked onward limit show now new
+    TurnsLead picked onward limit show now between → TurnsOnce picked onward limit show between new →
+    TurnsLead picked onward limit show now new
 unfolding TurnsTo
 one_more_turn limit show now between new first t = record { count = suc first.count; turns = (between, first.turns, t) }
 
 turns_on : {P : Type 0} (picked : P → List Move → ℕ) (onward : P → List Move → P) (limit : ℕ) (show : Reporting) (now between new : PolicyPlace P) (n : ℕ) →
-    LeadsTo picked onward limit show now between → TurnsTo picked onward limit show n between new →
-    LeadsTo picked onward limit show now new
+    TurnsLead picked onward limit show now between → TurnsTo picked onward limit show n between new →
+    TurnsLead picked onward limit show now new
 unfolding TurnsTo
-turns_on picked onward limit show now between new zero first same = subst (LeadsTo picked onward limit show now) (sym same) first
+turns_on picked onward limit show now between new zero first same = subst (TurnsLead picked onward limit show now) (sym same) first
 turns_on picked onward limit show now between new (suc n) first (place, turns, t) =
     one_more_turn limit show now place new (turns_on picked onward limit show now between place n first turns) t
 
 -- one after the other
 pub sweeps_on : {P : Type 0} {picked : P → List Move → ℕ} {onward : P → List Move → P} (limit : ℕ) (show : Reporting) (now between new : PolicyPlace P) →
-    LeadsTo picked onward limit show now between → LeadsTo picked onward limit show between new →
-    LeadsTo picked onward limit show now new
+    TurnsLead picked onward limit show now between → TurnsLead picked onward limit show between new →
+    TurnsLead picked onward limit show now new
 sweeps_on limit show now between new first second = turns_on _ _ limit show now between new second.count first second.turns
 
 -- where a run has come by a sweep; a stream that its moves had used before counts as used now
@@ -284,7 +284,7 @@ comes_turns picked onward rule limit show begin first streams report now new (su
 pub comes-by : {P : Type 0} {picked : P → List Move → ℕ} {onward : P → List Move → P} (rule : GuessRule) (limit : ℕ) (show : Reporting) (begin : RunPlace)
     (first : P) (streams : Streams) (report : Option (List ℕ))
     (now new : PolicyPlace P) (c : HasPicked rule picked onward limit show begin (exposing now streams report) first now.policy now.pace.count) →
-    now.pace.rule ≡ rule → LeadsTo picked onward limit show now new → ComesBy picked onward rule limit show begin first streams report now new c
+    now.pace.rule ≡ rule → TurnsLead picked onward limit show now new → ComesBy picked onward rule limit show begin first streams report now new c
 comes-by rule limit show begin first streams report now new c is led =
     comes_turns _ _ rule limit show begin first streams report now new led.count c is led.turns
 
@@ -320,12 +320,12 @@ turns_onward picked onward limit show now new (suc n) (between, turns, t) =
     }
 
 pub sweeps-onward : {P : Type 0} {picked : P → List Move → ℕ} {onward : P → List Move → P} (limit : ℕ) (show : Reporting) (now new : PolicyPlace P) →
-    LeadsTo picked onward limit show now new → Onward limit now new
+    TurnsLead picked onward limit show now new → Onward limit now new
 sweeps-onward limit show now new led = turns_onward _ _ limit show now new led.count led.turns
 
 -- a run that has come to where a sweep begins has come to where it ends
 pub come_on : {P : Type 0} {picked : P → List Move → ℕ} {onward : P → List Move → P} (limit : ℕ) (show : Reporting) (now new : PolicyPlace P) →
-    HasArrived picked onward limit show now → LeadsTo picked onward limit show now new → HasArrived picked onward limit show new
+    HasArrived picked onward limit show now → TurnsLead picked onward limit show now new → HasArrived picked onward limit show new
 come_on {picked = picked} {onward = onward} limit show now new come swept =
     let on = sweeps-onward limit show now new swept in
     let by = comes-by now.pace.rule limit show come.begin come.first come.streams come.report now new come.comes refl swept in
@@ -346,8 +346,8 @@ come_on {picked = picked} {onward = onward} limit show now new come swept =
 
 -- and the next part of the sweep begins there if the run goes on
 pub sweeping-on : {P : Type 0} {picked : P → List Move → ℕ} {onward : P → List Move → P} (limit : ℕ) (now new : PolicyPlace P) →
-    IsUnderWay picked onward limit now → LeadsTo picked onward limit silent now new → GoesOn limit new.core.state →
-    IsUnderWay picked onward limit new
+    RunsQuietly picked onward limit now → TurnsLead picked onward limit silent now new → GoesOn limit new.core.state →
+    RunsQuietly picked onward limit new
 sweeping-on limit now new ready swept goes = record {
   come = come_on limit silent now new ready.come swept;
   goes = goes;
@@ -383,7 +383,7 @@ come-counts limit show at h =
     can-count limit show h.begin (exposing at h.streams h.report) h.comes.reached (omega (arith, few))
 
 -- one more instruction too
-pub can-retire : {P : Type 0} {picked : P → List Move → ℕ} {onward : P → List Move → P} (limit : ℕ) (at : PolicyPlace P) → IsUnderWay picked onward limit at →
+pub can-retire : {P : Type 0} {picked : P → List Move → ℕ} {onward : P → List Move → P} (limit : ℕ) (at : PolicyPlace P) → RunsQuietly picked onward limit at →
     at.core.state.retired + 1 < 2 ^ 64
 can-retire limit at ready =
     let below = ready.goes.below in
@@ -396,7 +396,7 @@ same_plan : {P : Type 0} {picked : P → List Move → ℕ} {onward : P → List
 same_plan limit show at h = ap (λ (p : Processor). p.plan) h.comes.reached.core
 
 -- so it has at most 32 stages
-pub few-stages : {P : Type 0} {picked : P → List Move → ℕ} {onward : P → List Move → P} (limit : ℕ) (at : PolicyPlace P) → IsUnderWay picked onward limit at →
+pub few-stages : {P : Type 0} {picked : P → List Move → ℕ} {onward : P → List Move → P} (limit : ℕ) (at : PolicyPlace P) → RunsQuietly picked onward limit at →
     at.core.plan.stages ≤ 32
 few-stages limit at ready =
     let few = ready.come.accepted.stages.1 in
@@ -405,7 +405,7 @@ few-stages limit at ready =
 
 -- also after a sweep
 pub few_after : {P : Type 0} {picked : P → List Move → ℕ} {onward : P → List Move → P} (limit : ℕ) (now new : PolicyPlace P) →
-    IsUnderWay picked onward limit now → LeadsTo picked onward limit silent now new → new.core.plan.stages ≤ 32
+    RunsQuietly picked onward limit now → TurnsLead picked onward limit silent now new → new.core.plan.stages ≤ 32
 few_after limit now new ready swept =
     let few = few-stages limit now ready in
     let same = ap (λ (p : Plan). p.stages) (sweeps-onward limit silent now new swept).plan in
@@ -413,7 +413,7 @@ few_after limit now new ready swept =
 
 -- and fewer moves are left after some that were counted
 pub come-nearer : {P : Type 0} {picked : P → List Move → ℕ} {onward : P → List Move → P} (limit : ℕ) (show : Reporting) (begin at : PolicyPlace P)
-    (made : ℕ) → HasArrived picked onward limit show at → LeadsTo picked onward limit show begin at →
+    (made : ℕ) → HasArrived picked onward limit show at → TurnsLead picked onward limit show begin at →
     made < at.tally.moves → most_moves begin.core.plan limit - at.tally.moves < most_moves begin.core.plan limit - made
 come-nearer limit show begin at made h swept more =
     let few = comes-bounded at.pace.rule _ _ limit show h.begin (exposing at h.streams h.report) h.first at.policy at.pace.count h.accepted
@@ -427,7 +427,7 @@ come-nearer limit show begin at made h swept more =
 
 -- also after a sweep and one move
 pub made-nearer : {P : Type 0} {picked : P → List Move → ℕ} {onward : P → List Move → P} (limit : ℕ) (begin now new : PolicyPlace P) →
-    IsUnderWay picked onward limit new → LeadsTo picked onward limit silent begin now → LeadsTo picked onward limit silent now new →
+    RunsQuietly picked onward limit new → TurnsLead picked onward limit silent begin now → TurnsLead picked onward limit silent now new →
     new.tally.moves ≡ now.tally.moves + 1 → most_moves begin.core.plan limit - new.tally.moves < most_moves begin.core.plan limit - now.tally.moves
 made-nearer limit begin now new ready first swept counted =
     come-nearer limit silent begin new now.tally.moves ready.come (sweeps_on limit silent begin now new first swept) (omega (arith, counted))
@@ -436,7 +436,7 @@ made-nearer limit begin now new ready first swept counted =
 pub fewer_left : (most now between new : ℕ) → now ≤ between → most - new < most - between → most - new < most - now
 fewer_left most now between new grows near = omega (arith, grows, near)
 
-pub goes_on_so : {P : Type 0} {picked : P → List Move → ℕ} {onward : P → List Move → P} (limit : ℕ) (at : PolicyPlace P) → IsUnderWay picked onward limit at →
+pub goes_on_so : {P : Type 0} {picked : P → List Move → ℕ} {onward : P → List Move → P} (limit : ℕ) (at : PolicyPlace P) → RunsQuietly picked onward limit at →
     goes_on at.core.state ≡ true
 goes_on_so limit at ready = rw (ready.goes.unended, ready.works) refl
 
@@ -445,11 +445,11 @@ goes_on_so limit at ready = rw (ready.goes.unended, ready.works) refl
 -- a choice that was made, counted and recorded by the pace leads on
 pub chosen-leads : {P : Type 0} (picked : P → List Move → ℕ) (onward : P → List Move → P) (limit : ℕ) (now : PolicyPlace P) (core : Processor) (m : Move)
     (later : P) (pace : PaceCount) (tally : Tally) (e : Event) (seen : Bool) →
-    m ≢ mv.Serve → IsUnderWay picked onward limit now →
+    m ≢ mv.Serve → RunsQuietly picked onward limit now →
     choice picked now.core.plan (chooser now.pace.rule now.policy now.pace.count) now.core.state ≡ Some m →
     later ≡ onward now.policy (offered_by now.pace.rule now.core.plan now.pace.count now.core.state) → core ≡ after_move now.core m →
     IsEvent now.core.plan now.core.state m e → tally ≡ counted_event now.tally m e → pace ≡ saw now.pace m e seen → seen ≡ is_drained core.state →
-    LeadsTo picked onward limit silent now (policy_at core later pace tally)
+    TurnsLead picked onward limit silent now (policy_at core later pace tally)
 chosen-leads picked onward limit now core m later pace tally e seen other ready chosen goes_to is event counts told drained =
     one_more_turn limit silent now now (policy_at core later pace tally) (no_turns limit silent now)
     (chosen_turn picked onward limit now core m later pace tally e seen other ready chosen goes_to is event counts told drained)
@@ -465,8 +465,8 @@ picked-sweeps limit now core m pace tally e seen early ready picked is event cou
 
 -- unless it is Leave, the run goes on
 pub sweeping-kept : {P : Type 0} {picked : P → List Move → ℕ} {onward : P → List Move → P} (limit : ℕ) (now new : PolicyPlace P) →
-    IsUnderWay picked onward limit now → LeadsTo picked onward limit silent now new → Keeps now.core.state new.core.state →
-    IsUnderWay picked onward limit new
+    RunsQuietly picked onward limit now → TurnsLead picked onward limit silent now new → Keeps now.core.state new.core.state →
+    RunsQuietly picked onward limit new
 sweeping-kept limit now new ready swept keeps =
     let below = ready.goes.below in
     let retired = keeps.retired in
@@ -485,10 +485,10 @@ count-stops limit show at h =
 -- the pace is unchanged by a choice by which nothing enters at the bottom or leaves
 pub chosen-within : {P : Type 0} (picked : P → List Move → ℕ) (onward : P → List Move → P) (limit : ℕ) (now : PolicyPlace P) (core : Processor) (m : Move)
     (later : P) (tally : Tally) (e : Event) → 1 ≤ kind_place m → kind_place m ≤ 10 →
-    IsUnderWay picked onward limit now → choice picked now.core.plan (chooser now.pace.rule now.policy now.pace.count) now.core.state ≡ Some m →
+    RunsQuietly picked onward limit now → choice picked now.core.plan (chooser now.pace.rule now.policy now.pace.count) now.core.state ≡ Some m →
     later ≡ onward now.policy (offered_by now.pace.rule now.core.plan now.pace.count now.core.state) → core ≡ after_move now.core m →
     IsEvent now.core.plan now.core.state m e → tally ≡ counted_event now.tally m e →
-    LeadsTo picked onward limit silent now (policy_at core later now.pace tally)
+    TurnsLead picked onward limit silent now (policy_at core later now.pace tally)
 chosen-within picked onward limit now core m later tally e after before ready chosen goes_to is event counts =
     let plan = now.core.plan in
     let free = ruled-allowed now.pace.rule plan now.pace.count now.core.state _ m chosen in
@@ -581,7 +581,7 @@ allowed-inside plan s m barred free is =
 -- the pace sees nothing of a move by which nothing enters at the bottom or leaves
 pub within-taken : (core new : Processor) (m : Move) (pace : PaceCount) (tally after : Tally) (e : Event) → 1 ≤ kind_place m → kind_place m ≤ 10 →
     bar core.plan core.state m ≡ None → stopped pace.stages pace.count ≡ pace.count → new ≡ after_move core m → IsEvent core.plan core.state m e →
-    after ≡ counted_event tally m e → IsTaken m core new pace pace tally after
+    after ≡ counted_event tally m e → IsRecorded m core new pace pace tally after
 within-taken core new m pace tally after e late early free stops is event counts = record {
   event = e;
   is_event = event;
@@ -594,7 +594,7 @@ within-taken core new m pace tally after e late early free stops is event counts
 -- a drawn move that was made, counted and recorded is a turn of the run
 pub drawn-leads : (limit : ℕ) (now : PolicyPlace Lcg) (core : Processor) (m : Move) (pace : PaceCount) (tally : Tally) (offered : List Move) →
     m ≢ mv.Serve → IsDrawing limit now → offered ≡ offered_by now.pace.rule now.core.plan now.pace.count now.core.state →
-    Some m ≡ slice_get offered (drawn_pick now.policy offered) → IsTaken m now.core core now.pace pace now.tally tally →
+    Some m ≡ slice_get offered (drawn_pick now.policy offered) → IsRecorded m now.core core now.pace pace now.tally tally →
     DrawsTo limit silent now (policy_at core (drawn_on now.policy) pace tally)
 drawn-leads limit now core m pace tally offered other ready same chosen t =
     chosen-leads drawn_pick drawn_after limit now core m (drawn_on now.policy) pace tally t.event (is_drained core.state) other ready

@@ -92,14 +92,14 @@ TurnsTo {P} picked onward limit show (suc n) now new =
     (between : PolicyPlace P) × TurnsTo picked onward limit show n now between × TurnsOnce picked onward limit show between new
 
 -- some turns do
-pub record LeadsTo {P : Type 0} (picked : P → List Move → ℕ) (onward : P → List Move → P) (limit : ℕ) (show : Reporting)
+pub record TurnsLead {P : Type 0} (picked : P → List Move → ℕ) (onward : P → List Move → P) (limit : ℕ) (show : Reporting)
     (now new : PolicyPlace P) : Type 0 where
   pub count : ℕ
   pub turns : TurnsTo picked onward limit show count now new
 
 -- some turns of the rule do
 abbrev pub SweepsTo : (limit : ℕ) → Reporting → (now new : RulePlace) → Type 0
-SweepsTo limit show now new = LeadsTo round_pick round_on limit show now new
+SweepsTo limit show now new = TurnsLead round_pick round_on limit show now new
 
 -- a run by a policy that shows this has arrived here from an opened processor, over some streams and within a permitted limit
 pub record HasArrived {P : Type 0} (picked : P → List Move → ℕ) (onward : P → List Move → P) (limit : ℕ) (show : Reporting)
@@ -121,14 +121,14 @@ abbrev pub HasCome : (limit : ℕ) → Reporting → RulePlace → Type 0
 HasCome limit show at = HasArrived round_pick round_on limit show at
 
 -- a run by a policy that shows nothing has arrived here and goes on, and neither the input nor the output has failed
-pub record IsUnderWay {P : Type 0} (picked : P → List Move → ℕ) (onward : P → List Move → P) (limit : ℕ) (at : PolicyPlace P) : Type 0 where
+pub record RunsQuietly {P : Type 0} (picked : P → List Move → ℕ) (onward : P → List Move → P) (limit : ℕ) (at : PolicyPlace P) : Type 0 where
   pub come : HasArrived picked onward limit silent at
   pub goes : GoesOn limit at.core.state
   pub works : at.core.state.failed ≡ false
 
 -- a run by the rule has and does
 abbrev pub IsSweeping : (limit : ℕ) → RulePlace → Type 0
-IsSweeping limit at = IsUnderWay round_pick round_on limit at
+IsSweeping limit at = RunsQuietly round_pick round_on limit at
 
 -- a generator after it was drawn from, whatever it was offered
 abbrev pub drawn_after : Lcg → List Move → Lcg
@@ -136,7 +136,7 @@ drawn_after g moves = drawn_on g
 
 -- some turns of a run from a seed lead from one place to another
 abbrev pub DrawsTo : (limit : ℕ) → Reporting → (now new : PolicyPlace Lcg) → Type 0
-DrawsTo limit show now new = LeadsTo drawn_pick drawn_after limit show now new
+DrawsTo limit show now new = TurnsLead drawn_pick drawn_after limit show now new
 
 -- a run from a seed has come here
 abbrev pub HasDrawn : (limit : ℕ) → Reporting → PolicyPlace Lcg → Type 0
@@ -144,10 +144,10 @@ HasDrawn limit show at = HasArrived drawn_pick drawn_after limit show at
 
 -- a run from a seed that shows nothing has come here and goes on
 abbrev pub IsDrawing : (limit : ℕ) → PolicyPlace Lcg → Type 0
-IsDrawing limit at = IsUnderWay drawn_pick drawn_after limit at
+IsDrawing limit at = RunsQuietly drawn_pick drawn_after limit at
 
 -- the move was made, counted, and recorded by the pace
-pub record IsTaken (m : Move) (core new : Processor) (pace later : PaceCount) (tally after : Tally) : Type 0 where
+pub record IsRecorded (m : Move) (core new : Processor) (pace later : PaceCount) (tally after : Tally) : Type 0 where
   pub event : Event
   pub is_event : IsEvent core.plan core.state m event
   pub made : new ≡ after_move core m

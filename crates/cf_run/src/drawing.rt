@@ -16,7 +16,7 @@ ghost use Rattle.cf_run.specs.Made.{CanCount};
 ghost use Rattle.cf_run.specs.Moving.{place_by};
 ghost use Rattle.cf_run.specs.Policies.{CanRun, PolicyUnasked, RunsRight, most_moves};
 ghost use Rattle.cf_run.specs.Reaching.{no_tally};
-ghost use Rattle.cf_run.specs.Sweeps.{DrawsTo, HasDrawn, IsDrawing, IsTaken, drawn_after, policy_at, silent};
+ghost use Rattle.cf_run.specs.Sweeps.{DrawsTo, HasDrawn, IsDrawing, IsRecorded, drawn_after, policy_at, silent};
 ghost use Rattle.run_finishes.specs.Stopped.{input_stopped, output_stopped, report_stopped};
 
 use crate::counting::count;
@@ -40,7 +40,7 @@ fn make_recorded(core: &mut Core, mv: Move, pace: &mut Pace, tally: &mut Tally)
     requires other { mv ≢ moves.Serve }
     requires retired { core.old.state.retired + 1 < 2 ^ 64 }
     requires counts { CanCount tally.old }
-    ensures { IsTaken mv core.old core.new pace.old pace.new tally.old tally.new }
+    ensures { IsRecorded mv core.old core.new pace.old pace.new tally.old tally.new }
 {
     let event = core.make_inside(mv);
     count(tally, mv, &event);
@@ -55,7 +55,7 @@ fn make_seen(core: &mut Core, mv: Move, pace: &Pace, tally: &mut Tally)
     requires allowed { bar core.old.plan core.old.state mv ≡ None }
     requires counts { CanCount tally.old }
     requires stops { stopped pace.now.stages pace.now.count ≡ pace.now.count }
-    ensures { IsTaken mv core.old core.new pace.now pace.now tally.old tally.new }
+    ensures { IsRecorded mv core.old core.new pace.now pace.now tally.old tally.new }
 {
     let _pace = pace;
     let event = core.make_inside(mv);
@@ -71,7 +71,7 @@ fn make_unseen(core: &mut Core, mv: Move, pace: &Pace, tally: &mut Tally)
     requires allowed { bar core.old.plan core.old.state mv ≡ None }
     requires counts { CanCount tally.old }
     requires stops { stopped pace.now.stages pace.now.count ≡ pace.now.count }
-    ensures { IsTaken mv core.old core.new pace.now pace.now tally.old tally.new }
+    ensures { IsRecorded mv core.old core.new pace.now pace.now tally.old tally.new }
 {
     let _pace = pace;
     core.make_inside(mv);
@@ -88,7 +88,7 @@ fn make_drawn(core: &mut Core, mv: Move, pace: &mut Pace, tally: &mut Tally) -> 
     requires retired { core.old.state.retired + 1 < 2 ^ 64 }
     requires counts { CanCount tally.old }
     requires stops { stopped pace.old.stages pace.old.count ≡ pace.old.count }
-    ensures taken { IsTaken mv core.old core.new pace.old pace.new tally.old tally.new }
+    ensures taken { IsRecorded mv core.old core.new pace.old pace.new tally.old tally.new }
     ensures pace { result ≡ false → pace.new ≡ pace.old }
     ensures stays { result ≡ false → kind_place mv ≢ leave_place }
 {
