@@ -161,7 +161,7 @@ pub some_place : (n w : ℕ) → 0 < length (set_places n w) → 0 < w
 some_place n zero some = let e = rw (places_zero n) at some in absurd (omega (arith, e))
 some_place n (suc w) some = omega arith
 
--- nor is one of which so many are to be passed
+-- nor is one of which that many are to be passed
 pub some_left : (rest left : ℕ) → left < length (set_places 64 rest) → 1 ≤ rest
 some_left rest left more = some_place 64 rest (omega (arith, more))
 

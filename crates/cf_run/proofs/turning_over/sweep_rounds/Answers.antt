@@ -29,3 +29,9 @@ loop-gone-preserved c =
         from = c.start_over-next.ensures.from (set _ c.if-not-next.false);
       };
     }
+
+pub returns-then-not-next : goal.returns-then-not-next
+returns-then-not-next c =
+    let swept = sweeps_on _ _ _ _ _ c.loop-gone.invariant.on.swept c.sweep_stages-swept.ensures.on.swept in
+    let gone = sweeps_on _ _ _ _ _ swept c.sweep_outward-gone.ensures.swept in
+    record { swept = sweeps_on _ _ _ _ _ gone c.start_over-next.ensures.swept }
