@@ -15,8 +15,6 @@ TYPES = re.compile(r"::<.*")
 # With the marks of cf_timed clang takes three times as long, with those of the others a quarter longer; the commands that alone need
 # them rarely take long.
 LEFT_OUT = {"cf_timed", "run_ledger", "cf_log", "cf_conform", "cf_audit", "cf_debug"}
-# It has what each kind of move does. The kit's own compiler makes it a call too, since it is large.
-CALLS = {("cf_core", "Processor::make_marked")}
 
 
 def marked_in(source):
@@ -46,7 +44,6 @@ def short(name):
 def words(folder, module, needed):
     """The arguments by which clang inlines the marked functions of the module that are defined in these crates."""
     marked = {(crate, name) for crate in {*needed} - LEFT_OUT for source in files_of(crate, CODE_PARTS) for name in marked_in(source)}
-    marked -= CALLS
     defined = kit.llvm("llvm-nm", "--defined-only", "--format=just-symbols", module).splitlines()
     attributes = folder / "attributes.csv"
     attributes.write_text("".join(f"{name},alwaysinline\n" for name in defined if short(name) in marked))
