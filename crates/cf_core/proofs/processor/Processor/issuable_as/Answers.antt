@@ -21,7 +21,8 @@ returns-then-lane-lane_len-clause-taken c =
       ap (λ (x : Processor). x.plan.lane) c.self.view_is,
       ap (λ (x : Processor). length x.state.lane) c.self.view_is,
     ) in
-    ap (λ (x : Issuable). x.taken) c.never.ensures ∙ issue-full q.plan q.state c.args.pc guess.Taken p c.requires.facts c.requires.runs c.requires.free c.requires.passenger full
+    ap (λ (x : Issuable). x.taken) c.never.ensures ∙ issue-full q.plan q.state c.args.pc guess.Taken p c.requires.facts c.requires.runs c.requires.free
+    c.requires.passenger full
 
 pub returns-then-lane-lane_len-clause-wait : goal.returns-then-lane-lane_len-clause-wait
 returns-then-lane-lane_len-clause-wait c =
@@ -37,7 +38,8 @@ returns-then-lane-lane_len-clause-wait c =
       ap (λ (x : Processor). x.plan.lane) c.self.view_is,
       ap (λ (x : Processor). length x.state.lane) c.self.view_is,
     ) in
-    ap (λ (x : Issuable). x.wait) c.never.ensures ∙ issue-full q.plan q.state c.args.pc guess.Wait p c.requires.facts c.requires.runs c.requires.free c.requires.passenger full
+    ap (λ (x : Issuable). x.wait) c.never.ensures ∙ issue-full q.plan q.state c.args.pc guess.Wait p c.requires.facts c.requires.runs c.requires.free
+    c.requires.passenger full
 
 pub returns-clause-next : goal.returns-clause-next
 returns-clause-next c =
