@@ -101,7 +101,8 @@ fn others(core: &Core, stages: u32, leaves: u64) -> u64
 }
 
 /// The bits of each Issue that the guess rule keeps.
-#[inline(always)]
+// A call: it is asked for rarely, and what asks for it would be too large to be inlined.
+#[inline(never)]
 fn issues(core: &Core, rule: GuessRule) -> u64
     requires { is_going core.now.state ≡ true }
     ensures moves { packed_from 0 3 result ≡ kept_issues rule core.now.plan core.now.state }

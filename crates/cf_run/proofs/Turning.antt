@@ -44,7 +44,7 @@ use Rattle.cf_run.specs.Made.{CanCount, Made, counted_event, shown}
 use Rattle.cf_run.specs.Moving.{RunPlace, MoveDoes, run_place_of}
 use Rattle.cf_run.specs.Policies.{Turned, chooser, choice, most_moves}
 use Rattle.cf_run.specs.Reaching.{GoesOn, IsOver}
-use Rattle.cf_run.specs.Sweeps.{DrawsTo, HasArrived, HasPicked, IsDrawing, IsSweeping, IsRecorded, RunsQuietly, Keeps, TurnsLead, PicksNext, PolicyPlace, RulePlace, SweepsFrom, SweepsOn, SweepsTo, TurnsOnce, TurnsTo, drawn_after, exposing, policy_at, rule_at, silent}
+use Rattle.cf_run.specs.Sweeps.{DrawsOn, DrawsTo, HasArrived, HasPicked, IsDrawing, IsSweeping, IsRecorded, RunsQuietly, Keeps, TurnsLead, PicksNext, PolicyPlace, RulePlace, SweepsFrom, SweepsOn, SweepsTo, TurnsOnce, TurnsTo, drawn_after, exposing, policy_at, rule_at, silent}
 use Rattle.cf_run.proofs.ByRule.{ruled-allowed}
 use Rattle.cf_run.proofs.Coming.{asked-comes, comes-bounded, comes-counted, comes-more, comes-offered, seen-count, turned-counted, turned-plan, turned-within}
 use Rattle.cf_run.proofs.Occupied.{same-pace}
@@ -606,6 +606,23 @@ pub drawn-free : (limit : ℕ) (now : PolicyPlace Lcg) (m : Move) (offered : Lis
     Some m ≡ slice_get offered (drawn_pick now.policy offered) → bar now.core.plan now.core.state m ≡ None
 drawn-free limit now m offered same chosen =
     ruled-allowed now.pace.rule now.core.plan now.pace.count now.core.state _ m (sym (rw same at chosen))
+
+-- so a move that was drawn, made, counted and recorded leads on
+pub drawn-on : (limit : ℕ) (answer : Bool) (now : PolicyPlace Lcg) (core : Processor) (m : Move) (pace : PaceCount) (tally : Tally) (offered : List Move) →
+    false ≡ is_allowed now.core.plan now.core.state mv.Serve → IsDrawing limit now →
+    offered ≡ offered_by now.pace.rule now.core.plan now.pace.count now.core.state →
+    Some m ≡ slice_get offered (drawn_pick now.policy offered) → IsRecorded m now.core core now.pace pace now.tally tally →
+    (answer ≡ false → kind_place m ≢ leave_place) → (answer ≡ false → pace ≡ now.pace) →
+    DrawsOn limit answer now (policy_at core (drawn_on now.policy) pace tally)
+drawn-on limit answer now core m pace tally offered inside ready same chosen taken stays kept =
+    let other = allowed-inside now.core.plan now.core.state m inside (drawn-free limit now m offered same chosen) in
+    let led = drawn-leads limit now core m pace tally offered other ready same chosen taken in
+    record {
+      draws = led;
+      counted = ap (λ (t : Tally). t.moves) taken.counted;
+      ready = λ no. sweeping-kept limit now (policy_at core (drawn_on now.policy) pace tally) ready led (after_keeps now.core core m (stays no) taken.made);
+      pace = kept;
+    }
 
 -- and at least one move is offered
 pub drawing-offered : (limit : ℕ) (at : PolicyPlace Lcg) → IsDrawing limit at → 0 < length (offered_by at.pace.rule at.core.plan at.pace.count at.core.state)

@@ -1,6 +1,6 @@
 -- Turns of a policy that lead from one place of a run to another, none of which stops it; and the sweeps of the rule, which picks one
 -- move of a kind after another. They use neither stream and show nothing, so what is said of them holds whatever these expose.
-use Rattle.std.specs.Prelude.{◌≡◌, ◌≤◌, ℕ, zero, suc, List, None, Option, length, false}
+use Rattle.std.specs.Prelude.{◌≡◌, ◌≤◌, ℕ, ◌+◌, zero, suc, Bool, List, None, Option, length, false}
 use Rattle.rand_pcg.specs.Lcg.{Lcg}
 use Rattle.run_options.specs.Limits.{most_limit}
 use Rattle.run_options.specs.declared.guess_rule.GuessRule.{GuessRule}
@@ -145,6 +145,13 @@ HasDrawn limit show at = HasArrived drawn_pick drawn_after limit show at
 -- a run from a seed that shows nothing has come here and goes on
 abbrev pub IsDrawing : (limit : ℕ) → PolicyPlace Lcg → Type 0
 IsDrawing limit at = RunsQuietly drawn_pick drawn_after limit at
+
+-- a turn of a run from a seed leads on; if its answer is false, the run goes on with the same pace
+pub record DrawsOn (limit : ℕ) (answer : Bool) (now new : PolicyPlace Lcg) : Type 0 where
+  pub draws : DrawsTo limit silent now new
+  pub counted : new.tally.moves ≡ now.tally.moves + 1
+  pub ready : answer ≡ false → IsDrawing limit new
+  pub pace : answer ≡ false → new.pace ≡ now.pace
 
 -- the move was made, counted, and recorded by the pace
 pub record IsRecorded (m : Move) (core new : Processor) (pace later : PaceCount) (tally after : Tally) : Type 0 where

@@ -9,7 +9,7 @@ use cf_report::Tally;
 
 /// Counts a move that was made, with its event.
 #[inline(always)]
-pub(crate) fn count(tally: &mut Tally, mv: Move, event: &Event)
+pub fn count(tally: &mut Tally, mv: Move, event: &Event)
     requires { CanCount tally.old }
     ensures { tally.new ≡ counted_event tally.old mv event.now }
 {

@@ -2,7 +2,7 @@
 //! can end the run, and all candidates are in one word.
 #![tactic(auto, using(crate::proofs::Turning::goes_on_so, crate::proofs::Turning::no_turns))]
 
-ghost use Rattle.std.specs.Prelude.{◌≡◌, ◌≢◌, ◌+◌, ◌-◌, ◌<◌, ◌≤◌, ◌^◌, None, false};
+ghost use Rattle.std.specs.Prelude.{◌≡◌, ◌≢◌, ◌+◌, ◌-◌, ◌<◌, ◌≤◌, ◌^◌, None, false, true};
 ghost use Rattle.cf_io.specs.Causes.{HasCause};
 ghost use Rattle.cf_bind.specs.declared.moves.Move.TheVariants as moves;
 ghost use Rattle.cf_semantics.specs.moves.Bars.{bar};
@@ -16,7 +16,7 @@ ghost use Rattle.cf_run.specs.Made.{CanCount};
 ghost use Rattle.cf_run.specs.Moving.{place_by};
 ghost use Rattle.cf_run.specs.Policies.{CanRun, PolicyUnasked, RunsRight, most_moves};
 ghost use Rattle.cf_run.specs.Reaching.{no_tally};
-ghost use Rattle.cf_run.specs.Sweeps.{DrawsTo, HasDrawn, IsDrawing, IsRecorded, drawn_after, policy_at, silent};
+ghost use Rattle.cf_run.specs.Sweeps.{DrawsOn, DrawsTo, HasDrawn, IsDrawing, IsRecorded, drawn_after, policy_at, silent};
 ghost use Rattle.run_finishes.specs.Stopped.{input_stopped, output_stopped, report_stopped};
 
 use crate::counting::count;
@@ -131,16 +131,13 @@ fn take_turn(
     requires ready { IsDrawing limit (policy_at core.old drawn.old pace.old tally.old) }
     requires offered { offered.now ≡ offered_by pace.old.rule core.old.plan pace.old.count core.old.state }
     requires inside { false ≡ is_allowed core.old.plan core.old.state moves.Serve }
-    ensures draws { DrawsTo limit silent (policy_at core.old drawn.old pace.old tally.old) (policy_at core.new drawn.new pace.new tally.new) }
-    ensures pace { result ≡ false → pace.new ≡ pace.old }
-    ensures ready { result ≡ false → IsDrawing limit (policy_at core.new drawn.new pace.new tally.new) }
-    ensures counted { tally.new.moves ≡ tally.old.moves + 1 }
+    ensures on { DrawsOn limit result (policy_at core.old drawn.old pace.old tally.old) (policy_at core.new drawn.new pace.new tally.new) }
 {
     let mv = drawn.pick_packed(offered);
     make_drawn(core, mv, pace, tally)
 }
 
-/// The same where there are Slides.
+/// The same where there are Slides. The pace may have changed, or the run may be over.
 // Where there are some, the drawn one is looked for in two words. This is rare, and a call, so that elsewhere the drawn move is
 // in registers.
 #[inline(never)]
@@ -151,16 +148,15 @@ fn take_turn_with_slides(
     pace: &mut Pace,
     limit: u64,
     tally: &mut Tally,
-) -> bool
+)
     requires ready { IsDrawing limit (policy_at core.old drawn.old pace.old tally.old) }
     requires offered { offered ≡ offered_by pace.old.rule core.old.plan pace.old.count core.old.state }
     requires inside { false ≡ is_allowed core.old.plan core.old.state moves.Serve }
-    ensures draws { DrawsTo limit silent (policy_at core.old drawn.old pace.old tally.old) (policy_at core.new drawn.new pace.new tally.new) }
-    ensures pace { result ≡ false → pace.new ≡ pace.old }
-    ensures ready { result ≡ false → IsDrawing limit (policy_at core.new drawn.new pace.new tally.new) }
-    ensures counted { tally.new.moves ≡ tally.old.moves + 1 }
+    ensures on { DrawsOn limit true (policy_at core.old drawn.old pace.old tally.old) (policy_at core.new drawn.new pace.new tally.new) }
 {
-    take_turn(core, drawn, &offered, pace, limit, tally)
+    let _limit = limit;
+    let mv = drawn.pick_packed(&offered);
+    make_recorded(core, mv, pace, tally);
 }
 
 /// The same, whether or not there are Slides.
@@ -176,13 +172,11 @@ fn take_any_turn(
     requires ready { IsDrawing limit (policy_at core.old drawn.old pace.old tally.old) }
     requires offered { offered ≡ offered_by pace.old.rule core.old.plan pace.old.count core.old.state }
     requires inside { false ≡ is_allowed core.old.plan core.old.state moves.Serve }
-    ensures draws { DrawsTo limit silent (policy_at core.old drawn.old pace.old tally.old) (policy_at core.new drawn.new pace.new tally.new) }
-    ensures pace { result ≡ false → pace.new ≡ pace.old }
-    ensures ready { result ≡ false → IsDrawing limit (policy_at core.new drawn.new pace.new tally.new) }
-    ensures counted { tally.new.moves ≡ tally.old.moves + 1 }
+    ensures on { DrawsOn limit result (policy_at core.old drawn.old pace.old tally.old) (policy_at core.new drawn.new pace.new tally.new) }
 {
     if offered.has_slides() {
-        take_turn_with_slides(core, drawn, offered, pace, limit, tally)
+        take_turn_with_slides(core, drawn, offered, pace, limit, tally);
+        true
     } else {
         take_turn(core, drawn, &offered, pace, limit, tally)
     }

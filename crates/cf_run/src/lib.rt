@@ -15,6 +15,7 @@ mod showing;
 mod sweep;
 mod turning_over;
 
+pub use counting::count;
 pub use drawing::run_drawn;
 pub use facts::known;
 pub use finished::over;

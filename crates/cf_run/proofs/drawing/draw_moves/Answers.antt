@@ -38,24 +38,24 @@ take_any_turn-requires-clause-offered c =
     h.ready.come.stages c.open-offered.ensures
 
 pub over-requires : goal.over-requires
-over-requires c = (come_on _ _ _ _ c.loop-rule.invariant.ready.come c.take_any_turn.ensures.draws).within
+over-requires c = (come_on _ _ _ _ c.loop-rule.invariant.ready.come c.take_any_turn.ensures.on.draws).within
 
 pub returns-then-is_some : goal.returns-then-is_some
-returns-then-is_some c = record { draws = sweeps_on _ _ _ _ _ c.loop-rule.invariant.draws c.take_any_turn.ensures.draws }
+returns-then-is_some c = record { draws = sweeps_on _ _ _ _ _ c.loop-rule.invariant.draws c.take_any_turn.ensures.on.draws }
 
 pub loop-rule-smaller-then-take_any_turn : goal.loop-rule-smaller-then-take_any_turn
 loop-rule-smaller-then-take_any_turn c =
-    let ready = sweeping-on _ _ _ c.loop-rule.invariant.ready c.take_any_turn.ensures.draws
+    let ready = sweeping-on _ _ _ c.loop-rule.invariant.ready c.take_any_turn.ensures.on.draws
     (not-over _ _ _ c.over.ensures (sym c.is_some.ensures ∙ c.if-is_some.false)) in
-    made-nearer _ _ _ _ ready c.loop-rule.invariant.draws c.take_any_turn.ensures.draws c.take_any_turn.ensures.counted
+    made-nearer _ _ _ _ ready c.loop-rule.invariant.draws c.take_any_turn.ensures.on.draws c.take_any_turn.ensures.on.counted
 
 pub loop-rule-preserved-then-take_any_turn : goal.loop-rule-preserved-then-take_any_turn
 loop-rule-preserved-then-take_any_turn c =
     let h = c.loop-rule.invariant in
-    let on = sweeps-onward _ _ _ _ c.take_any_turn.ensures.draws in
+    let on = sweeps-onward _ _ _ _ c.take_any_turn.ensures.on.draws in
     record {
-      draws = sweeps_on _ _ _ _ _ h.draws c.take_any_turn.ensures.draws;
-      ready = sweeping-on _ _ _ h.ready c.take_any_turn.ensures.draws
+      draws = sweeps_on _ _ _ _ _ h.draws c.take_any_turn.ensures.on.draws;
+      ready = sweeping-on _ _ _ h.ready c.take_any_turn.ensures.on.draws
           (not-over _ _ _ c.over.ensures (sym c.is_some.ensures ∙ c.if-is_some.false));
       stages = h.stages ∙ ap (λ (plan : Plan). plan.stages) (sym on.plan);
       rule = h.rule ∙ sym on.rule;
@@ -64,17 +64,17 @@ loop-rule-preserved-then-take_any_turn c =
 
 pub loop-rule-smaller : goal.loop-rule-smaller
 loop-rule-smaller c =
-    made-nearer _ _ _ _ (c.take_any_turn.ensures.ready c.if-take_any_turn.false) c.loop-rule.invariant.draws c.take_any_turn.ensures.draws
-    c.take_any_turn.ensures.counted
+    made-nearer _ _ _ _ (c.take_any_turn.ensures.on.ready c.if-take_any_turn.false) c.loop-rule.invariant.draws c.take_any_turn.ensures.on.draws
+    c.take_any_turn.ensures.on.counted
 
 pub loop-rule-preserved : goal.loop-rule-preserved
 loop-rule-preserved c =
     let h = c.loop-rule.invariant in
-    let on = sweeps-onward _ _ _ _ c.take_any_turn.ensures.draws in
+    let on = sweeps-onward _ _ _ _ c.take_any_turn.ensures.on.draws in
     record {
-      draws = sweeps_on _ _ _ _ _ h.draws c.take_any_turn.ensures.draws;
-      ready = c.take_any_turn.ensures.ready c.if-take_any_turn.false;
+      draws = sweeps_on _ _ _ _ _ h.draws c.take_any_turn.ensures.on.draws;
+      ready = c.take_any_turn.ensures.on.ready c.if-take_any_turn.false;
       stages = h.stages ∙ ap (λ (plan : Plan). plan.stages) (sym on.plan);
       rule = h.rule ∙ sym on.rule;
-      held = h.held ∙ ap holds_issue (sym (c.take_any_turn.ensures.pace c.if-take_any_turn.false));
+      held = h.held ∙ ap holds_issue (sym (c.take_any_turn.ensures.on.pace c.if-take_any_turn.false));
     }
