@@ -1,5 +1,5 @@
 -- The state of a timed run on its way: its picks are those that finish earliest, and the clock has recorded its moves.
-use Rattle.std.proofs.Common.{◌≡◌, ◌∙◌, refl, sym, ap, subst, ℕ, suc, ◌+◌, ◌*◌, ◌^◌, ◌<◌, ◌≤◌, List, [], ◌∷◌, ◌++◌, length, arith, append-nil, append_assoc}
+use Rattle.std.proofs.Common.{◌≡◌, ◌∙◌, refl, sym, ap, subst, ℕ, suc, ◌+◌, ◌^◌, ◌<◌, List, [], ◌∷◌, ◌++◌, length, arith, append-nil, append_assoc}
 use Rattle.std.specs.List.{AllByRecursion}
 use Rattle.run_options.specs.declared.guess_rule.GuessRule.{GuessRule}
 use Rattle.cf_layout.specs.Layout.{Plan}
@@ -11,6 +11,7 @@ use Rattle.cf_run.specs.Made.{Made}
 use Rattle.cf_run.specs.Policies.{Chooser, Picks, chooser, first_pick, later_picks}
 use Rattle.cf_run.proofs.Stopped.{offered-stopped}
 use Rattle.cf_timed.specs.declared.timed_move.TimedMove.{TimedMove}
+use Rattle.cf_timed.specs.Arrivals.{ClockFollows, SoFar, turn_after}
 use Rattle.cf_timed.specs.Delays.{AreDelays}
 use Rattle.cf_timed.specs.DelayedRuns.{DelayRule, delay_at, delayed_at, timed_after, visits_of}
 use Rattle.cf_timed.specs.Times.{delayed, done_after, done_at, greatest_time}
@@ -19,15 +20,11 @@ use Rattle.cf_timed.specs.Earliest.{AreEarliest, TimedTurn, earliest, first_leas
 use Rattle.cf_timed.specs.Turns.{timed_by}
 use Rattle.cf_timed.specs.Watching.{watched, watched_text}
 use Rattle.cf_timed.proofs.Delaying.{all_time, time_few}
-use Rattle.cf_timed.proofs.Following.{Follows, delay_follows, finish_follows, follows_more}
+use Rattle.cf_timed.proofs.Following.{delay_follows, finish_follows, follows_more}
 use Rattle.cf_timed.proofs.Leasts.{least-same}
 use Rattle.cf_timed.proofs.Room.{offered_kept}
 
--- the state of a run after some moves
-abbrev pub turn_after : Plan → DelayRule → TimedTurn → List Made → TimedTurn
-turn_after plan rule t [] = t
-turn_after plan rule t (made ∷ trace) = turn_after plan rule (after_turn plan rule t made) trace
-
+-- the state of a run after some moves and one more
 pub turn-last : (plan : Plan) (rule : DelayRule) (t : TimedTurn) (trace : List Made) (made : Made) →
     turn_after plan rule t (trace ++ made ∷ []) ≡ after_turn plan rule (turn_after plan rule t trace) made
 turn-last plan rule t [] made = refl
@@ -125,15 +122,16 @@ picks-longer plan r (x ∷ xs) ys n s (made ∷ trace) last size (pick, picks) =
     (pick, picks-longer plan r xs ys _ made.state trace last (omega (arith, size)) picks)
 
 -- the time of a move by the clock is its time
-pub capped-is : (plan : Plan) (rule : DelayRule) (t : TimedTurn) (clock : SiteTimes) (mv : Move) → AreDelays rule.spans → Follows plan rule t.earlier clock →
-    greatest_time t.earlier + 1000 < 2 ^ 64 → AreKept plan mv → capped (clocked clock t.state) mv ≡ time_in plan rule t.state t.earlier mv
+pub capped-is : (plan : Plan) (rule : DelayRule) (t : TimedTurn) (clock : SiteTimes) (mv : Move) → AreDelays rule.spans →
+    ClockFollows plan rule t.earlier clock → greatest_time t.earlier + 1000 < 2 ^ 64 → AreKept plan mv →
+    capped (clocked clock t.state) mv ≡ time_in plan rule t.state t.earlier mv
 capped-is plan rule t clock mv few h early kept =
     let f = finish_follows plan rule t.earlier clock t.state mv h kept in
     let g = time_few plan rule t.state t.earlier mv few in
     omega (arith, f, g, early)
 
 each_capped : (plan : Plan) (rule : DelayRule) (t : TimedTurn) (clock : SiteTimes) (moves : List Move) → AreDelays rule.spans →
-    Follows plan rule t.earlier clock →
+    ClockFollows plan rule t.earlier clock →
     greatest_time t.earlier + 1000 < 2 ^ 64 → AllByRecursion (AreKept plan) moves →
     AllByRecursion (λ mv. capped (clocked clock t.state) mv ≡ time_in plan rule t.state t.earlier mv) moves
 each_capped plan rule t clock [] few h early kept = tt
@@ -142,7 +140,7 @@ each_capped plan rule t clock (mv ∷ moves) few h early kept =
 
 -- so the clock picks the move that finishes earliest
 pub pick-is : (r : GuessRule) (plan : Plan) (rule : DelayRule) (t : TimedTurn) (clock : SiteTimes) (held : ℕ) → IsAccepted plan → AreDelays rule.spans →
-    Follows plan rule t.earlier clock → greatest_time t.earlier + 1000 < 2 ^ 64 → held ≡ stopped plan.stages t.count →
+    ClockFollows plan rule t.earlier clock → greatest_time t.earlier + 1000 < 2 ^ 64 → held ≡ stopped plan.stages t.count →
     first_least (capped (clocked clock t.state)) (offered_by r plan held t.state) ≡ earliest r plan rule t
 unfolding earliest
 pick-is r plan rule t clock held acc few h early e =
@@ -152,8 +150,8 @@ pick-is r plan rule t clock held acc few h early e =
     (each_capped plan rule t clock (offered_by r plan t.count t.state) few h early (offered_kept r plan t.count t.state acc))
 
 -- what the clock says of the move is its delay and its time
-pub timed-is : (plan : Plan) (rule : DelayRule) (t : TimedTurn) (clock : SiteTimes) (mv : Move) → AreDelays rule.spans → Follows plan rule t.earlier clock →
-    greatest_time t.earlier + 1000 < 2 ^ 64 → AreKept plan mv →
+pub timed-is : (plan : Plan) (rule : DelayRule) (t : TimedTurn) (clock : SiteTimes) (mv : Move) → AreDelays rule.spans →
+    ClockFollows plan rule t.earlier clock → greatest_time t.earlier + 1000 < 2 ^ 64 → AreKept plan mv →
     timed_by clock t.state mv ≡ done_after plan t.earlier (delayed_at rule t.state t.earlier mv)
 timed-is plan rule t clock mv few h early kept =
     let d = delay_follows plan rule t.earlier clock t.state mv h kept in
@@ -161,15 +159,7 @@ timed-is plan rule t clock mv few h early kept =
     ap (λ (n : ℕ). done_at (delayed mv n) (capped (clocked clock t.state) mv)) d
     ∙ ap (λ (n : ℕ). done_at (delayed mv (delay_at rule t.state t.earlier mv)) n) c
 
--- the moves so far, made by these picks, lead to this turn, and the clock has recorded them
-pub record SoFar (r : GuessRule) (plan : Plan) (rule : DelayRule) (begin : TimedTurn) (picks : List ℕ) (trace : List Made) (turn : TimedTurn)
-    (clock : SiteTimes) : Type 0 where
-  pub turn_is : turn ≡ turn_after plan rule begin trace
-  pub are_earliest : AreEarliest r plan rule begin picks trace
-  pub size : length picks ≡ length trace
-  pub follows : Follows plan rule turn.earlier clock
-  pub early : greatest_time turn.earlier ≤ 1000 * length trace
-
+-- the moves so far and one more
 length-last : {X : Type 0} (xs : List X) (x : X) → length (xs ++ x ∷ []) ≡ suc (length xs)
 length-last [] x = refl
 length-last (y ∷ ys) x = ap suc (length-last ys x)
@@ -187,7 +177,7 @@ so-far-more r plan rule begin picks trace turn clock after place made few h earl
       turn_is = ap (λ (t : TimedTurn). after_turn plan rule t made) h.turn_is ∙ sym (turn-last plan rule begin trace made);
       are_earliest = made-last r plan rule begin picks trace place made h.are_earliest h.size there;
       size = let p = length-last picks place in let s = h.size in omega (arith, p, n, s);
-      follows = subst (λ (k : SiteTimes). Follows plan rule (after_turn plan rule turn made).earlier k)
+      follows = subst (λ (k : SiteTimes). ClockFollows plan rule (after_turn plan rule turn made).earlier k)
           (sym (stamps ∙ ap (λ (n : ℕ). stamped clock made.move n) c))
           (follows_more plan rule turn.earlier clock (delayed_at rule turn.state turn.earlier made.move) h.follows kept);
       early =

@@ -8,22 +8,14 @@ use Rattle.cf_bind.specs.declared.moves.Move.{Move}
 use Rattle.cf_semantics.specs.state.Options.{on}
 use Rattle.cf_timed.specs.declared.draws.DelayDraws.{DelayDraws}
 use Rattle.cf_timed.specs.declared.timed_move.TimedMove.{TimedMove}
+use Rattle.cf_timed.specs.Arrivals.{HasDrawnWords}
 use Rattle.cf_timed.specs.DelayedRuns.{drawn_before, word_of_move}
 use Rattle.cf_timed.specs.Drawing.{after_word, drawn_from, generator, next_draw_state, next_word, started_from, stream_count, stream_of, drawn_word}
 use Rattle.cf_timed.specs.Numbers.{number_at}
 use Rattle.cf_timed.proofs.Numbered.{numbered_at, numbered_length, set_length}
 
--- the state of each stream is that after as many words as moves drew from it
-abbrev pub HasDrawn : Option ℕ → List TimedMove → DelayDraws → Type 0
-HasDrawn None moves draws = draws.seed ≡ None
-HasDrawn (Some seed) moves draws = record {
-  seeded : draws.seed ≡ Some seed;
-  size : length draws.states ≡ stream_count;
-  states : (stream : ℕ) → stream < stream_count → number_at draws.states stream ≡ (generator seed stream (drawn_before stream moves)).state;
-}
-
 -- so the next word is the word after those
-pub word_drawn : (seed : Option ℕ) (moves : List TimedMove) (draws : DelayDraws) (mv : Move) → HasDrawn seed moves draws → stream_of mv < stream_count →
+pub word_drawn : (seed : Option ℕ) (moves : List TimedMove) (draws : DelayDraws) (mv : Move) → HasDrawnWords seed moves draws → stream_of mv < stream_count →
     next_word draws (stream_of mv) ≡ word_of_move seed moves mv
 unfolding next_word word_of_move drawn_word
 word_drawn None moves draws mv h below = rw h refl
@@ -79,10 +71,10 @@ unfolding after_word
 after_some draws stream seed e = ap (λ (o : Option ℕ). on o draws (λ n. record draws { states = slice_set draws.states stream (next_draw_state draws stream) }))
     e
 
-pub word_taken : (seed : Option ℕ) (moves : List TimedMove) (draws : DelayDraws) (done : TimedMove) → HasDrawn seed moves draws →
-    stream_of done.mv < stream_count → HasDrawn seed (done ∷ moves) (after_word draws (stream_of done.mv))
-word_taken None moves draws done h below = subst (HasDrawn None (done ∷ moves)) (sym (after_none draws (stream_of done.mv) h)) h
-word_taken (Some seed) moves draws done h below = subst (HasDrawn (Some seed) (done ∷ moves)) (sym (after_some draws (stream_of done.mv) seed h.seeded))
+pub word_taken : (seed : Option ℕ) (moves : List TimedMove) (draws : DelayDraws) (done : TimedMove) → HasDrawnWords seed moves draws →
+    stream_of done.mv < stream_count → HasDrawnWords seed (done ∷ moves) (after_word draws (stream_of done.mv))
+word_taken None moves draws done h below = subst (HasDrawnWords None (done ∷ moves)) (sym (after_none draws (stream_of done.mv) h)) h
+word_taken (Some seed) moves draws done h below = subst (HasDrawnWords (Some seed) (done ∷ moves)) (sym (after_some draws (stream_of done.mv) seed h.seeded))
     (record {
       seeded = h.seeded;
       size = set_length draws.states (stream_of done.mv) (next_draw_state draws (stream_of done.mv)) ∙ h.size;
@@ -105,7 +97,7 @@ none_drawn : (seed stream : ℕ) → (started 64 multiplier_64 seed (increment_o
 unfolding generator drawn_before state_after
 none_drawn seed stream = refl
 
-pub drawn_start : (seed : Option ℕ) → HasDrawn seed [] (drawn_from seed)
+pub drawn_start : (seed : Option ℕ) → HasDrawnWords seed [] (drawn_from seed)
 unfolding drawn_from started_from
 drawn_start None = refl
 drawn_start (Some seed) = record {

@@ -127,13 +127,13 @@ delay_some c mv h = ticks_some (span_of c.clock.delays mv (class_of_move c.state
     (is_span c.clock.delays mv (class_of_move c.state mv) h)
 
 -- a move that is made now, at the time of what is kept
-record IsMadeNow (plan : Plan) (m : Moment) (clock : SiteTimes) (mv : Move) : Type 0 where
-  sidings : HasSidings plan m.state
-  is_clock : IsClockOf plan clock
-  delays : AreDelays clock.delays
-  allowed : bar plan m.state mv ≡ None
-  plain : stands_alone plan m.state mv ≡ false
-  kept : AreKept plan mv
+pub record IsMadeNow (plan : Plan) (m : Moment) (clock : SiteTimes) (mv : Move) : Type 0 where
+  pub sidings : HasSidings plan m.state
+  pub is_clock : IsClockOf plan clock
+  pub delays : AreDelays clock.delays
+  pub allowed : bar plan m.state mv ≡ None
+  pub plain : stands_alone plan m.state mv ≡ false
+  pub kept : AreKept plan mv
 
 -- it leaves each move that shares no site with it, and delays the others past the time
 begins_after : (plan : Plan) (m : Moment) (clock : SiteTimes) (mv other : Move) (t : ℕ) → IsMadeNow plan m clock mv → AreKept plan other →
@@ -148,32 +148,48 @@ begins_then plan m clock mv other t made here apart =
     let p = made.is_clock.plan_is in
     begins_same clock mv other t made.is_clock.room (rw p made.kept) (rw p here) (rw p apart)
 
-left_by : (plan : Plan) (m : Moment) (clock : SiteTimes) (mv other : Move) (t : ℕ) → IsMadeNow plan m clock mv → AreDelays (stamped clock mv t).delays →
-    t < 2 ^ 64 - 1 → AreKept plan other →
+-- the delays of the clock stay
+same_delays : (clock : SiteTimes) (mv : Move) (t : ℕ) → AreDelays clock.delays → AreDelays (stamped clock mv t).delays
+same_delays clock mv t h = subst AreDelays (sym (put_delays (allowed clock t) t (used clock.plan mv))) h
+
+-- so a move that shares no site with it is allowed if it was, and finishes when it did; another finishes after the time
+pub allowed_then : (plan : Plan) (m : Moment) (clock : SiteTimes) (mv other : Move) → IsMadeNow plan m clock mv → shares plan other mv ≡ false →
+    is_allowed plan (next plan m mv).state other ≡ is_allowed plan m.state other
+allowed_then plan m clock mv other made apart =
+    allowed_stays plan m mv other made.sidings made.allowed made.plain (unshared_back plan other mv apart)
+
+pub finishes_then : (plan : Plan) (m : Moment) (clock : SiteTimes) (mv other : Move) (t : ℕ) → IsMadeNow plan m clock mv → AreKept plan other →
+    shares plan other mv ≡ false → capped (clocked (stamped clock mv t) (next plan m mv).state) other ≡ capped (clocked clock m.state) other
+unfolding finish_time
+finishes_then plan m clock mv other t made here apart =
+    let begins = begins_then plan m clock mv other t made here apart in
+    let p = made.is_clock.plan_is in
+    let takes = delay_same clock m.state (next plan m mv).state mv other t (rw p made.kept) (rw p here) (rw p apart)
+    (class_stays plan m mv other made.allowed (unshared_back plan other mv apart)) in
+    rw (begins, takes) refl
+
+pub finishes_after : (plan : Plan) (m : Moment) (clock : SiteTimes) (mv other : Move) (t : ℕ) → IsMadeNow plan m clock mv → t < 2 ^ 64 - 1 →
+    AreKept plan other → shares plan other mv ≡ true → t < capped (clocked (stamped clock mv t) (next plan m mv).state) other
+unfolding finish_time
+finishes_after plan m clock mv other t made below here met =
+    let begins = begins_after plan m clock mv other t made here met in
+    let takes = delay_some (clocked (stamped clock mv t) (next plan m mv).state) other (same_delays clock mv t made.delays) in
+    omega (arith, begins, takes, below)
+
+left_by : (plan : Plan) (m : Moment) (clock : SiteTimes) (mv other : Move) (t : ℕ) → IsMadeNow plan m clock mv → t < 2 ^ 64 - 1 → AreKept plan other →
     Left (chosen plan m.state) (chosen plan (next plan m mv).state) (capped (clocked clock m.state))
     (capped (clocked (stamped clock mv t) (next plan m mv).state)) (λ x. shares plan x mv) t other
-unfolding finish_time
-left_by plan m clock mv other t made spans below here = record {
+left_by plan m clock mv other t made below here = record {
   apart = λ apart.
-      let turned = unshared_back plan other mv apart in
-      let allowed = allowed_stays plan m mv other made.sidings made.allowed made.plain turned in
-      let begins = begins_then plan m clock mv other t made here apart in
-      let p = made.is_clock.plan_is in
-      let takes = delay_same clock m.state (next plan m mv).state mv other t (rw p made.kept) (rw p here) (rw p apart)
-      (class_stays plan m mv other made.allowed turned) in
-      (ap (λ (b : Bool). b && not (is_issue other)) allowed, rw (begins, takes) refl);
-  late = λ met.
-      let begins = begins_after plan m clock mv other t made here met in
-      let takes = delay_some (clocked (stamped clock mv t) (next plan m mv).state) other spans in
-      omega (arith, begins, takes, below);
+      (ap (λ (b : Bool). b && not (is_issue other)) (allowed_then plan m clock mv other made apart), finishes_then plan m clock mv other t made here apart);
+  late = λ met. finishes_after plan m clock mv other t made below here met;
 }
 
 -- what is kept stays right
 due_more : (plan : Plan) (m : Moment) (clock : SiteTimes) (mv : Move) (kept : KeptMoves) → IsAccepted plan → IsMadeNow plan m clock mv →
-    AreDelays (stamped clock mv kept.time).delays → kept.time < 2 ^ 64 - 1 → AreDue plan (clocked clock m.state) kept →
-    AreDue plan (clocked (stamped clock mv kept.time) (next plan m mv).state) kept
+    kept.time < 2 ^ 64 - 1 → AreDue plan (clocked clock m.state) kept → AreDue plan (clocked (stamped clock mv kept.time) (next plan m mv).state) kept
 unfolding finishing still_due
-due_more plan m clock mv kept acc made spans below due =
+due_more plan m clock mv kept acc made below due =
     let t : ℕ = kept.time in
     let met : Move → Bool = λ x. shares plan x mv in
     let s : State = m.state in
@@ -181,7 +197,7 @@ due_more plan m clock mv kept acc made spans below due =
     let now : ClockedState = clocked clock s in
     let later : ClockedState = clocked (stamped clock mv t) after in
     let each = all_from (AreKept plan) (Left (chosen plan s) (chosen plan after) (capped now) (capped later) met t) (all_moves plan)
-    (λ x here. left_by plan m clock mv x t made spans below here) (all_moves_kept plan acc) in
+    (λ x here. left_by plan m clock mv x t made below here) (all_moves_kept plan acc) in
     let these = others_chosen plan s in
     let those = others_chosen plan after in
     record {
@@ -239,9 +255,6 @@ due_none plan c = record {
 }
 
 -- what is kept after a move is right, unless the program has ended
-same_delays : (clock : SiteTimes) (mv : Move) (t : ℕ) → AreDelays clock.delays → AreDelays (stamped clock mv t).delays
-same_delays clock mv t h = subst AreDelays (sym (put_delays (allowed clock t) t (used clock.plan mv))) h
-
 pub due_after : (plan : Plan) (m : Moment) (clock : SiteTimes) (mv : Move) (time : ℕ) (kept : KeptMoves) → IsAccepted plan → HasSidings plan m.state →
     IsClockOf plan clock → AreDelays clock.delays → bar plan m.state mv ≡ None → AreKept plan mv → AreDue plan (clocked clock m.state) kept →
     (next plan m mv).state.ending ≡ None → AreDue plan (clocked (stamped clock mv time) (next plan m mv).state) (kept_after kept mv time)
@@ -262,7 +275,7 @@ due_after plan m clock mv time kept acc sidings is_clock delays allowed here due
           allowed = allowed;
           plain = alone;
           kept = here;
-        }) (same_delays clock mv kept.time delays) under due)
+        }) under due)
 
     by : (b : Bool) → is_serve mv ≡ b → AreDue plan (clocked (stamped clock mv time) (next plan m mv).state)
         (cond b none_kept (cond (nat_eq time kept.time && nat_lt time (2 ^ 64 - 1)) kept none_kept))

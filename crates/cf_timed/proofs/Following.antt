@@ -14,28 +14,16 @@ use Rattle.cf_bind.specs.declared.moves.Move.TheVariants.{Issue, Emit, Climb, Fa
 use Rattle.cf_semantics.specs.state.State.{State}
 use Rattle.cf_timed.specs.declared.draws.DelayDraws.{DelayDraws}
 use Rattle.cf_timed.specs.declared.timed_move.TimedMove.{TimedMove}
+use Rattle.cf_timed.specs.Arrivals.{ClockFollows, HasDrawnWords, last_at}
 use Rattle.cf_timed.specs.Delays.{span_of}
 use Rattle.cf_timed.specs.DelayedRuns.{DelayRule, Visit, class_of_move, delay_at, delayed_at, timed_after, word_of_move}
 use Rattle.cf_timed.specs.Drawing.{after_word, drawn_from, stream_count, stream_of, ticks_in}
 use Rattle.cf_timed.specs.Numbers.{number_at}
 use Rattle.cf_timed.specs.Times.{DelayedMove, done_at, done_after, greatest, greatest_time, finish_after}
 use Rattle.cf_timed.specs.Clocks.{AreKept, ClockKnows, HasRoom, IsKept, SiteTimes, allowed, clocked, delay_by, drawing, finish_time, made, made_all, put_time, put_times, siding_row, rule_of_clock, stamped, started, time_at}
-use Rattle.cf_timed.proofs.Drawn.{HasDrawn, drawn_start, number_put, word_drawn, word_taken}
+use Rattle.cf_timed.proofs.Drawn.{drawn_start, number_put, word_drawn, word_taken}
 use Rattle.cf_timed.proofs.SiteTimes.{at_start, put_delays, put_draws, put_latest, put_same, same_drawn, same_times}
-use Rattle.cf_timed.proofs.Greatest.{greatest_where, where_any, where_more, where_none}
-
--- the maximum time of the moves that use the site
-abbrev pub last_at : Plan → List TimedMove → Site → ℕ
-last_at plan moves x = greatest_where (λ done. uses_place plan done.mv x) moves
-
--- the clock has recorded the moves
-pub record Follows (plan : Plan) (rule : DelayRule) (moves : List TimedMove) (c : SiteTimes) : Type 0 where
-  pub plan_is : c.plan ≡ plan
-  pub rule_is : rule_of_clock c ≡ rule
-  pub drawn : HasDrawn rule.seed moves c.draws
-  pub room : HasRoom c
-  pub latest_is : c.latest ≡ greatest_time moves
-  pub times_are : (x : Site) → IsKept x → time_at c x ≡ last_at plan moves x
+use Rattle.cf_timed.proofs.Greatest.{where_any, where_more, where_none}
 
 -- two functions that agree on the sites of a list
 map_same : (f g : Site → ℕ) (xs : List Site) → AllByRecursion IsKept xs → ((x : Site) → IsKept x → f x ≡ g x) → map f xs ≡ map g xs
@@ -64,7 +52,7 @@ stream_kept plan Exit kept = omega arith
 stream_kept plan Serve kept = omega arith
 
 -- how long a further move takes
-pub delay_follows : (plan : Plan) (rule : DelayRule) (moves : List TimedMove) (c : SiteTimes) (s : State) (mv : Move) → Follows plan rule moves c →
+pub delay_follows : (plan : Plan) (rule : DelayRule) (moves : List TimedMove) (c : SiteTimes) (s : State) (mv : Move) → ClockFollows plan rule moves c →
     AreKept plan mv → delay_by (clocked c s) mv ≡ delay_at rule s moves mv
 unfolding delay_by delay_at
 delay_follows plan rule moves c s mv h kept =
@@ -73,7 +61,7 @@ delay_follows plan rule moves c s mv h kept =
     ∙ ap (λ (r : DelayRule). ticks_in (span_of r.spans mv (class_of_move s mv)) (word_of_move rule.seed moves mv)) h.rule_is
 
 -- when a further move finishes
-pub finish_follows : (plan : Plan) (rule : DelayRule) (moves : List TimedMove) (c : SiteTimes) (s : State) (mv : Move) → Follows plan rule moves c →
+pub finish_follows : (plan : Plan) (rule : DelayRule) (moves : List TimedMove) (c : SiteTimes) (s : State) (mv : Move) → ClockFollows plan rule moves c →
     AreKept plan mv → finish_time (clocked c s) mv ≡ finish_after plan moves (delayed_at rule s moves mv)
 unfolding finish_time finish_after shares delay_by greatest_time
 finish_follows plan rule moves c s mv h kept =
@@ -242,8 +230,8 @@ seed_kept c mv = by c.draws.seed refl
     by (Some n) e = rw e refl
 
 -- a clock that records one more move
-pub follows_more : (plan : Plan) (rule : DelayRule) (moves : List TimedMove) (c : SiteTimes) (d : DelayedMove) → Follows plan rule moves c →
-    AreKept plan d.mv → Follows plan rule (done_after plan moves d ∷ moves) (stamped c d.mv (finish_after plan moves d))
+pub follows_more : (plan : Plan) (rule : DelayRule) (moves : List TimedMove) (c : SiteTimes) (d : DelayedMove) → ClockFollows plan rule moves c →
+    AreKept plan d.mv → ClockFollows plan rule (done_after plan moves d ∷ moves) (stamped c d.mv (finish_after plan moves d))
 follows_more plan rule moves c d h kept =
     let t : ℕ = finish_after plan moves d in
     let put : SiteTimes = put_times (allowed c t) t (used plan d.mv) in
@@ -251,10 +239,11 @@ follows_more plan rule moves c d h kept =
     let spans_are : put.delays ≡ c.delays = put_delays (allowed c t) t (used plan d.mv) in
     let room_is = room_times (allowed c t) t (used plan d.mv)
     (record { stages = h.room.stages; sidings = h.room.sidings; cells = h.room.cells }) kept in
-    subst (λ (l : Plan). Follows plan rule (done_after plan moves d ∷ moves) (drawing (put_times (allowed c t) t (used l d.mv)) d.mv)) (sym h.plan_is) (record {
+    subst (λ (l : Plan). ClockFollows plan rule (done_after plan moves d ∷ moves) (drawing (put_times (allowed c t) t (used l d.mv)) d.mv)) (sym h.plan_is)
+    (record {
       plan_is = put_same (allowed c t) t (used plan d.mv) ∙ h.plan_is;
       rule_is = same_rule (drawing put d.mv) c spans_are (seed_kept put d.mv ∙ ap (λ (w : DelayDraws). w.seed) draws_are) ∙ h.rule_is;
-      drawn = subst (λ (w : DelayDraws). HasDrawn rule.seed (done_after plan moves d ∷ moves) (after_word w (stream_of d.mv))) (sym draws_are)
+      drawn = subst (λ (w : DelayDraws). HasDrawnWords rule.seed (done_after plan moves d ∷ moves) (after_word w (stream_of d.mv))) (sym draws_are)
           (word_taken rule.seed moves c.draws (done_after plan moves d) h.drawn (stream_kept plan d.mv kept));
       room = record { stages = room_is.stages; sidings = room_is.sidings; cells = room_is.cells };
       latest_is = put_latest (allowed c t) t (used plan d.mv) ∙ ap (λ (n : ℕ). max n t) h.latest_is ∙ latest_more moves d t;
@@ -277,7 +266,7 @@ zero_row (suc m) n (suc k) within = zero_row m n k (omega arith)
 started_at : (plan : Plan) (rule : DelayRule) (x : Site) → IsKept x → time_at (started plan rule) x ≡ last_at plan [] x
 started_at plan rule x here = let a = at_start plan rule x in let b = where_none (λ done. uses_place plan done.mv x) in omega (arith, a, b)
 
-pub follows_start : (plan : Plan) (rule : DelayRule) → Follows plan rule [] (started plan rule)
+pub follows_start : (plan : Plan) (rule : DelayRule) → ClockFollows plan rule [] (started plan rule)
 unfolding started greatest_time drawn_from
 follows_start plan rule = record {
   plan_is = refl;
@@ -306,7 +295,7 @@ pub moves_kept : (plan : Plan) (mv : Move) → IsAccepted plan → HasSites plan
 moves_kept plan mv a there = all_kept plan (used plan mv) a (used_ones plan mv) there
 
 -- so it knows when a further move finishes
-pub follows_tells : (plan : Plan) (rule : DelayRule) (moves : List TimedMove) (c : SiteTimes) → IsAccepted plan → Follows plan rule moves c →
+pub follows_tells : (plan : Plan) (rule : DelayRule) (moves : List TimedMove) (c : SiteTimes) → IsAccepted plan → ClockFollows plan rule moves c →
     ClockKnows plan rule moves c
 follows_tells plan rule moves c a h = record {
   plan_is = h.plan_is;
@@ -318,14 +307,15 @@ follows_tells plan rule moves c a h = record {
 
 -- and so does a clock that records the moves of a run
 pub follows_all : (plan : Plan) (rule : DelayRule) (earlier : List TimedMove) (c : SiteTimes) (visits : List Visit) → IsAccepted plan →
-    AllByRecursion (λ v. HasSites plan v.mv) visits → Follows plan rule earlier c → Follows plan rule (timed_after plan rule earlier visits) (made_all c visits)
+    AllByRecursion (λ v. HasSites plan v.mv) visits → ClockFollows plan rule earlier c →
+    ClockFollows plan rule (timed_after plan rule earlier visits) (made_all c visits)
 unfolding made timed_after
 follows_all plan rule earlier c [] a there h = h
 follows_all plan rule earlier c (v ∷ visits) a there h =
     let d : DelayedMove = delayed_at rule v.state earlier v.mv in
     let kept = moves_kept plan v.mv a there.0 in
     let e = finish_follows plan rule earlier c v.state v.mv h kept in
-    let next : Follows plan rule (done_after plan earlier d ∷ earlier) (stamped c v.mv (finish_time (clocked c v.state) v.mv)) =
+    let next : ClockFollows plan rule (done_after plan earlier d ∷ earlier) (stamped c v.mv (finish_time (clocked c v.state) v.mv)) =
     rw e (follows_more plan rule earlier c d h kept) in
     follows_all plan rule (done_after plan earlier d ∷ earlier) (stamped c v.mv (finish_time (clocked c v.state) v.mv)) visits a there.1 next
 

@@ -3,11 +3,8 @@ use Rattle.std.proofs.Common.{◌≡◌, ◌∙◌, refl, sym, ap, ℕ, List, []
 use Rattle.std.specs.Prelude.{filter, ◌||◌}
 use Rattle.std.specs.List.{list_any}
 use Rattle.cf_timed.specs.declared.timed_move.TimedMove.{TimedMove}
+use Rattle.cf_timed.specs.Arrivals.{greatest_where}
 use Rattle.cf_timed.specs.Times.{greatest, greatest_time}
-
--- the maximum time of the moves that pass a test
-abbrev pub greatest_where : (TimedMove → Bool) → List TimedMove → ℕ
-greatest_where test moves = greatest_time (filter test moves)
 
 -- one more move
 pub where_more : (test : TimedMove → Bool) (done : TimedMove) (moves : List TimedMove) → greatest_where test (done ∷ moves)

@@ -1,47 +1,41 @@
 -- Moves kept in a list of fixed length.
-use Rattle.std.proofs.Common.{◌≡◌, refl, sym, ap, ℕ, zero, suc, ◌+◌, ◌<◌, ◌≤◌, List, [], ◌∷◌, ◌++◌, drop, length, take, arith}
+use Rattle.std.proofs.Common.{◌≡◌, refl, sym, ap, ℕ, zero, suc, ◌+◌, ◌<◌, ◌≤◌, List, [], ◌∷◌, ◌++◌, None, drop, length, take, arith}
 use Rattle.std.specs.Prelude.{slice_get, slice_set}
+use Rattle.std.proofs.lemmas.List.{length-drop, length-take-le}
 use Rattle.cf_bind.specs.declared.moves.Move.{Move}
 
--- the first of those from one index up to another
-pub kept_first : (moves : List Move) (n count : ℕ) → n < count → slice_get moves n ≡ slice_get (drop n (take count moves)) 0
-kept_first [] zero count before = past count before
-  where
-    past : (count : ℕ) → 0 < count → slice_get {X = Move} [] 0 ≡ slice_get (take {A = Move} count []) 0
-    past zero before = refl
-    past (suc count) before = refl
-kept_first [] (suc n) zero before = refl
-kept_first [] (suc n) (suc count) before = refl
-kept_first (x ∷ moves) n zero before = absurd (omega arith)
-kept_first (x ∷ moves) zero (suc count) before = refl
-kept_first (x ∷ moves) (suc n) (suc count) before = kept_first moves n count (omega (arith, before))
+-- those before an index
+pub kept_at : (moves : List Move) (n count : ℕ) → n < count → slice_get moves n ≡ slice_get (take count moves) n
+kept_at moves n zero before = absurd (omega (arith, before))
+kept_at [] n (suc count) before = refl
+kept_at (x ∷ moves) zero (suc count) before = refl
+kept_at (x ∷ moves) (suc n) (suc count) before = kept_at moves n count (omega (arith, before))
 
-pub kept_none : (moves : List Move) (n count : ℕ) → count ≤ n → drop n (take count moves) ≡ []
-kept_none [] zero zero past = refl
-kept_none [] zero (suc count) past = refl
-kept_none [] (suc n) zero past = refl
-kept_none [] (suc n) (suc count) past = refl
-kept_none (x ∷ moves) zero zero past = refl
-kept_none (x ∷ moves) (suc n) zero past = refl
-kept_none (x ∷ moves) zero (suc count) past = absurd (omega arith)
-kept_none (x ∷ moves) (suc n) (suc count) past = kept_none moves n count (omega (arith, past))
+pub kept_past : (moves : List Move) (n count : ℕ) → count ≤ n → None ≡ slice_get (take count moves) n
+kept_past moves n zero past = refl
+kept_past [] n (suc count) past = refl
+kept_past (x ∷ moves) zero (suc count) past = absurd (omega (arith, past))
+kept_past (x ∷ moves) (suc n) (suc count) past = kept_past moves n count (omega (arith, past))
 
-pub kept_some : (moves : List Move) (n count : ℕ) → 0 < length (drop n (take count moves)) → n < count
-kept_some [] zero zero some = absurd (omega (arith, some))
-kept_some [] zero (suc count) some = omega arith
-kept_some [] (suc n) zero some = absurd (omega (arith, some))
-kept_some [] (suc n) (suc count) some = absurd (omega (arith, some))
-kept_some (x ∷ moves) zero zero some = absurd (omega (arith, some))
-kept_some (x ∷ moves) (suc n) zero some = absurd (omega (arith, some))
-kept_some (x ∷ moves) zero (suc count) some = omega arith
-kept_some (x ∷ moves) (suc n) (suc count) some = let h = kept_some moves n count some in omega (arith, h)
+pub kept_count : (moves : List Move) (count room : ℕ) → count ≤ room → room ≡ length moves → count ≡ length (take count moves)
+kept_count moves count room few e = sym (length-take-le count moves (omega (arith, few, e)))
+
+-- the first of those from an index on
+pub left_first : (moves : List Move) (n : ℕ) → slice_get moves n ≡ slice_get (drop n moves) 0
+left_first [] zero = refl
+left_first [] (suc n) = refl
+left_first (x ∷ moves) zero = refl
+left_first (x ∷ moves) (suc n) = left_first moves n
+
+pub left_some : (moves : List Move) (n : ℕ) → 0 < length (drop n moves) → n < length moves
+left_some moves n some = omega (arith, some, length-drop n moves)
 
 -- and those after it
-pub kept_fewer : (xs : List Move) (n : ℕ) → drop (n + 1) xs ≡ drop 1 (drop n xs)
-kept_fewer [] zero = refl
-kept_fewer [] (suc n) = let e : suc n + 1 ≡ suc (n + 1) = omega arith in rw e refl
-kept_fewer (x ∷ xs) zero = refl
-kept_fewer (x ∷ xs) (suc n) = let e : suc n + 1 ≡ suc (n + 1) = omega arith in rw e (kept_fewer xs n)
+pub left_fewer : (xs : List Move) (n : ℕ) → drop (n + 1) xs ≡ drop 1 (drop n xs)
+left_fewer [] zero = refl
+left_fewer [] (suc n) = let e : suc n + 1 ≡ suc (n + 1) = omega arith in rw e refl
+left_fewer (x ∷ xs) zero = refl
+left_fewer (x ∷ xs) (suc n) = let e : suc n + 1 ≡ suc (n + 1) = omega arith in rw e (left_fewer xs n)
 
 -- one move, one more, and no more than there is room for
 pub kept_one : (moves : List Move) (mv : Move) → 0 < length moves → take 1 (slice_set moves 0 mv) ≡ mv ∷ []

@@ -26,4 +26,7 @@ pub mod Stamped
 pub mod KeptLists
 pub mod DueMoves
 pub mod Looked
+pub mod Looks
 pub mod DueTurns
+pub mod NoIssue
+pub mod MakingDue

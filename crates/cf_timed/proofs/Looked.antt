@@ -11,7 +11,7 @@ use Rattle.cf_bind.specs.declared.moves.Move.{Move}
 use Rattle.cf_index.specs.Allowed.{allowed_others}
 use Rattle.cf_timed.specs.Clocks.{AreKept, ClockedState, begin_time, capped, finish_time}
 use Rattle.cf_timed.specs.Delays.{AreDelays}
-use Rattle.cf_timed.specs.DueMoves.{AreDue, KeptMoves, Look, finishing, first_look, kept_below, kept_with, looked, most_kept, still_due}
+use Rattle.cf_timed.specs.DueMoves.{AreDue, KeptMoves, finishing, kept_below, kept_with, looked, most_kept, none_at, still_due}
 use Rattle.cf_timed.proofs.DueMoves.{delay_some, others_kept}
 use Rattle.cf_timed.proofs.Room.{all_both, all_passed}
 
@@ -107,17 +107,20 @@ seen_more f seen kept mv h = by (nat_lt (f mv) kept.time) (nat_eq (f mv) kept.ti
         }
 
 -- all moves that are left
-seen_rest : (c : ClockedState) (seen rest : List Move) (s : Look) → s.clock ≡ c → IsSeen (capped c) seen s.kept →
-    IsSeen (capped c) (seen ++ rest) (fold looked s rest).kept
-seen_rest c seen [] s same h = let e = append-nil seen in rw e h
-seen_rest c seen (mv ∷ rest) s same h =
-    let more : IsSeen (capped c) (seen ++ mv ∷ []) (kept_with s.kept mv (capped s.clock mv)) = rw same (seen_more (capped c) seen s.kept mv h) in
-    let all = seen_rest c (seen ++ mv ∷ []) rest (looked s mv) same more in
+seen_rest : (c : ClockedState) (seen rest : List Move) (kept : KeptMoves) → IsSeen (capped c) seen kept →
+    IsSeen (capped c) (seen ++ rest) (fold (looked c) kept rest)
+seen_rest c seen [] kept h = let e = append-nil seen in rw e h
+seen_rest c seen (mv ∷ rest) kept h =
+    let all = seen_rest c (seen ++ mv ∷ []) rest (looked c kept mv) (seen_more (capped c) seen kept mv h) in
     let e = append_assoc seen (mv ∷ []) rest in
     rw e at all
 
-seen_all : (c : ClockedState) (moves : List Move) → IsSeen (capped c) moves (fold looked (first_look c) moves).kept
-seen_all c moves = seen_rest c [] moves (first_look c) refl (record { least = tt; moves = refl; some = λ below. absurd (omega (arith, below)) })
+-- what has been found of some moves, where no time is above the maximum number of 64 bits
+abbrev all_looked : ClockedState → List Move → KeptMoves
+all_looked c moves = fold (looked c) (none_at (2 ^ 64 - 1)) moves
+
+seen_all : (c : ClockedState) (moves : List Move) → IsSeen (capped c) moves (all_looked c moves)
+seen_all c moves = seen_rest c [] moves (none_at (2 ^ 64 - 1)) (record { least = tt; moves = refl; some = λ below. absurd (omega (arith, below)) })
 
 -- what passes a test, and the first of it
 all_pass : (p : Move → Bool) (xs : List Move) → AllByRecursion (λ mv. p mv ≡ true) xs → filter p xs ≡ xs
@@ -187,20 +190,19 @@ fresh plan c kept acc spans h = by (nat_lt kept.time (2 ^ 64 - 1)) refl
         }
 
 pub looked_due : (plan : Plan) (c : ClockedState) (kept : KeptMoves) → IsAccepted plan → AreDelays c.clock.delays →
-    kept ≡ kept_below (fold looked (first_look c) (allowed_others plan c.state)).kept → AreDue plan c kept
+    kept ≡ kept_below (all_looked c (allowed_others plan c.state)) → AreDue plan c kept
 looked_due plan c kept acc spans e =
-    subst (AreDue plan c) (sym e) (fresh plan c (fold looked (first_look c) (allowed_others plan c.state)).kept acc spans
-    (seen_all c (allowed_others plan c.state))).due
+    subst (AreDue plan c) (sym e) (fresh plan c (all_looked c (allowed_others plan c.state)) acc spans (seen_all c (allowed_others plan c.state))).due
 
 pub looked_still : (plan : Plan) (c : ClockedState) (kept : KeptMoves) → IsAccepted plan → AreDelays c.clock.delays →
-    kept ≡ kept_below (fold looked (first_look c) (allowed_others plan c.state)).kept → still_due c.clock kept ≡ kept.moves
+    kept ≡ kept_below (all_looked c (allowed_others plan c.state)) → still_due c.clock kept ≡ kept.moves
 looked_still plan c kept acc spans e =
-    subst (λ (k : KeptMoves). still_due c.clock k ≡ k.moves) (sym e) (fresh plan c (fold looked (first_look c) (allowed_others plan c.state)).kept acc spans
-    (seen_all c (allowed_others plan c.state))).still
+    subst (λ (k : KeptMoves). still_due c.clock k ≡ k.moves) (sym e)
+    (fresh plan c (all_looked c (allowed_others plan c.state)) acc spans (seen_all c (allowed_others plan c.state))).still
 
 pub looked_some : (plan : Plan) (c : ClockedState) (kept : KeptMoves) → IsAccepted plan → AreDelays c.clock.delays →
-    kept ≡ kept_below (fold looked (first_look c) (allowed_others plan c.state)).kept → kept.moves ≡ [] →
+    kept ≡ kept_below (all_looked c (allowed_others plan c.state)) → kept.moves ≡ [] →
     AllByRecursion (λ mv. 2 ^ 64 - 1 ≤ capped c mv) (allowed_others plan c.state)
 looked_some plan c kept acc spans e none =
-    (fresh plan c (fold looked (first_look c) (allowed_others plan c.state)).kept acc spans (seen_all c (allowed_others plan c.state))).some
+    (fresh plan c (all_looked c (allowed_others plan c.state)) acc spans (seen_all c (allowed_others plan c.state))).some
     (ap (λ (k : KeptMoves). k.moves) (sym e) ∙ none)

@@ -11,12 +11,12 @@ use Rattle.cf_bind.specs.declared.moves.Move.{Move}
 use Rattle.cf_semantics.specs.moves.Holding.{paced}
 use Rattle.cf_semantics.specs.state.Drained.{is_drained}
 use Rattle.cf_semantics.specs.state.State.{State}
-use Rattle.cf_core.specs.Processors.{Processor, IsOpened}
+use Rattle.cf_core.specs.Processors.{Processor}
 use Rattle.cf_report.specs.declared.tally.Tally.{Tally}
-use Rattle.cf_sched.specs.Paces.{offered_by, stopped}
+use Rattle.cf_sched.specs.Paces.{PaceCount, offered_by, stopped}
 use Rattle.run_finishes.specs.declared.finish.Ran.{Ran as Answer}
 use Rattle.run_finishes.specs.declared.finish.Ran.TheVariants as ran
-use Rattle.cf_run.specs.Made.{Made, moves_of, tally_of}
+use Rattle.cf_run.specs.Made.{CanCount, Made, moves_of, tally_of}
 use Rattle.cf_run.specs.Moving.{RunPlace, run_place_of}
 use Rattle.cf_run.specs.Policies.{Chooser, Picks, RunsPolicy, StopsAtPick, StopsPolicy, TakesPick, chooser, first_pick, fresh_chooser, later_picks, made_last, most_moves}
 use Rattle.cf_run.specs.Reaching.{Reaches, no_tally}
@@ -24,10 +24,11 @@ use Rattle.cf_run.proofs.Bounds.{bound_grows, bound_number, bound_small, reached
 use Rattle.cf_run.proofs.ByPolicy.{policy-bounded, policy-sequential, turned-more, turned-picks, turned-trace}
 use Rattle.cf_run.proofs.Coming.{turned-counted, turned-within}
 use Rattle.cf_run.proofs.Ending.{policy-ends-sequentially}
-use Rattle.cf_run.proofs.Runs.{none-trace, reached-none}
+use Rattle.cf_run.proofs.Runs.{can-count, none-trace, reached-none}
 use Rattle.cf_run.proofs.Stopped.{offered-stopped, paced-stopped}
 use Rattle.cf_timed.specs.declared.answer.Timed.{Timed}
 use Rattle.cf_timed.specs.declared.timed_move.TimedMove.{TimedMove}
+use Rattle.cf_timed.specs.Arrivals.{ComesTimed, IsBegun, LeadsTimed, SoFar, TimedPlace}
 use Rattle.cf_timed.specs.Delays.{AreDelays}
 use Rattle.cf_timed.specs.DelayedRuns.{DelayRule, delayed_at, timed_visits, visits_of}
 use Rattle.cf_timed.specs.declared.step.TimedStep.{TimedStep}
@@ -37,20 +38,9 @@ use Rattle.cf_timed.specs.Clocks.{AreKept, ClockKnows, IsClockOf, SiteTimes, cap
 use Rattle.cf_timed.specs.Earliest.{AreEarliest, TimedTurn, earliest, first_least, after_turn}
 use Rattle.cf_timed.specs.TimedRuns.{CanRunTimed, RunsTimed, answer_of_timed, begins, timed_start}
 use Rattle.cf_timed.specs.Turns.{MakesEarliest, StopsEarliest, made_as, pick_by, timed_by}
-use Rattle.cf_timed.proofs.Arriving.{SoFar, pick-is, picks-longer, so-far-more, timed-is, timed-there, tried-last}
+use Rattle.cf_timed.proofs.Arriving.{pick-is, picks-longer, so-far-more, timed-is, timed-there, tried-last}
 use Rattle.cf_timed.proofs.Following.{follows_start, follows_tells}
 use Rattle.cf_timed.proofs.Room.{offered_kept, one_of_all}
-
--- the picks so far lead from one place to another, and the clock has recorded what was made
-pub record ComesTimed (r : GuessRule) (rule : DelayRule) (limit : ℕ) (begin now : RunPlace)
-    (clock : SiteTimes) (held : ℕ) : Type 0 where
-  pub reached : Reaches limit show.report begin now
-  pub picks : List ℕ
-  pub turn : TimedTurn
-  pub picked : Picks first_pick later_picks begin.core.plan (fresh_chooser r picks) begin.core.state reached.trace (chooser r [] turn.count)
-  pub so_far : SoFar r begin.core.plan rule (timed_start begin.core.state) picks reached.trace turn clock
-  pub held_is : held ≡ stopped begin.core.plan.stages turn.count
-  pub state_is : now.core.state ≡ turn.state
 
 -- no pick yet
 pub timed-first : (r : GuessRule) (rule : DelayRule) (limit : ℕ) (begin : RunPlace) (clock : SiteTimes) (held stages : ℕ) → begin.tally ≡ no_tally →
@@ -86,14 +76,6 @@ first-trace r rule limit begin clock held stages none begun beside zero_held = n
 -- the layout is unchanged
 same-plan : (limit : ℕ) (begin now : RunPlace) → Reaches limit show.report begin now → now.core.plan ≡ begin.core.plan
 same-plan limit begin now h = ap (λ (p : Processor). p.plan) h.core
-
--- a run that has begun properly
-pub record IsBegun (rule : DelayRule) (limit : ℕ) (begin : RunPlace) : Type 0 where
-  pub accepted : IsAccepted begin.core.plan
-  pub wide : length begin.core.state.regs ≡ 32
-  pub is_opened : IsOpened begin.core
-  pub delays : AreDelays rule.spans
-  pub few : limit ≤ most_timed_limit
 
 -- such a limit is also a limit of a run
 timed-allowed : (limit : ℕ) → limit ≤ most_timed_limit → limit ≤ most_limit
@@ -144,6 +126,14 @@ timed-counted r rule limit begin now clock held b c within =
     let m = timed-bounded r rule limit begin now clock held b c within in
     let s = bound_small begin.core.plan limit b.accepted (timed-allowed limit b.few) in
     omega (arith, m, s)
+
+-- and each count of one more
+pub timed-can-count : (r : GuessRule) (rule : DelayRule) (limit : ℕ) (begin now : RunPlace) (clock : SiteTimes)
+    (held : ℕ) → IsBegun rule limit begin → ComesTimed r rule limit begin now clock held →
+    now.core.state.retired ≤ limit → CanCount now.tally
+timed-can-count r rule limit begin now clock held b c within =
+    let few = timed-counted r rule limit begin now clock held b c within in
+    can-count limit show.report begin now c.reached (omega (arith, few))
 
 -- with the count of the turn the same moves are offered
 offers-same : (r : GuessRule) (rule : DelayRule) (limit : ℕ) (begin now : RunPlace) (clock : SiteTimes)
@@ -266,6 +256,11 @@ timed-nearer r rule limit begin now new clock after step held later b c within m
   where
     less : (most now new : ℕ) → new ≡ now + 1 → new ≤ most → most - new < most - now
     less most now new e h = omega (arith, e, h)
+
+-- also if the run was led there from another place
+pub led-nearer : (limit : ℕ) (pace : PaceCount) (from now : TimedPlace) (most left : ℕ) → LeadsTimed limit pace from now →
+    left < most - now.tally.moves → left < most - from.tally.moves
+led-nearer limit pace from now most left leads nearer = let counted = leads.counted in omega (arith, counted, nearer)
 
 -- the run, once it stops
 pub record EndsTimed (r : GuessRule) (rule : DelayRule) (limit : ℕ) (begin new : RunPlace)
@@ -414,3 +409,17 @@ pub ends-bounded : (r : GuessRule) (rule : DelayRule) (limit : ℕ) (begin new :
     new.tally.moves ≤ most_moves begin.core.plan (new.core.state.retired - begin.core.state.retired)
 ends-bounded r rule limit begin new clock answer b h =
     policy-bounded r first_pick later_picks limit show.report begin new h.picks [] h.moves answer b.accepted b.wide b.is_opened h.runs
+
+-- where the run stops it meets its contract, with the guess rule that was asked for
+pub stops-timed : (r asked : GuessRule) (rule : DelayRule) (limit : ℕ) (core new : Processor) (before after : Streams) (now : RunPlace) (tally : Tally)
+    (clock last : SiteTimes) (held : ℕ) (answer : Answer) (timed : Timed) → IsBegun rule limit (begins core before) → r ≡ asked →
+    ComesTimed r rule limit (begins core before) now clock held → now.core.state.retired ≤ limit →
+    StopsEarliest limit r now (run_place_of new after None tally) held clock answer × (last ≡ clock) →
+    (answer ≢ ran.ReportFault → answer_of_timed timed ≡ answer) → RunsTimed asked rule limit (begins core before) new after last tally.moves timed
+stops-timed r asked rule limit core new before after now tally clock last held answer timed b same c within stops told =
+    let place : RunPlace = run_place_of new after None tally in
+    let stops_so : StopsEarliest limit r now place held clock (answer_of_timed timed) =
+    subst (λ (a : Answer). StopsEarliest limit r now place held clock a) (sym (told (never-reported limit r now place held clock answer stops.0))) stops.0 in
+    subst (λ (g : GuessRule). RunsTimed g rule limit (begins core before) new after last tally.moves timed) same
+    (runs-timed r rule limit core new before after tally clock last timed b
+    (timed-ends r rule limit (begins core before) now place clock held (answer_of_timed timed) b c within stops_so) stops.1)

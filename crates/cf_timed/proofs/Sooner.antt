@@ -28,7 +28,7 @@ use Rattle.cf_timed.proofs.DueMoves.{first_due, first_still}
 use Rattle.cf_timed.proofs.Leasts.{IsFirst, least-after, least-front, least-of_all}
 
 -- all Issues use the same sites and are of one kind
-issue_time : (c : ClockedState) (g : Guess) → capped c (Issue g) ≡ capped c (Issue Next)
+pub issue_time : (c : ClockedState) (g : Guess) → capped c (Issue g) ≡ capped c (Issue Next)
 unfolding finish_time delay_by span_of class_of_move stream_of
 issue_time c g = refl
 

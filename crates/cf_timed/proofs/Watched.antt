@@ -30,6 +30,7 @@ use Rattle.cf_timed.specs.declared.answer.Timed.{Timed}
 use Rattle.cf_timed.specs.declared.answer.TimedRun.{TimedRun}
 use Rattle.cf_timed.specs.declared.step.TimedStep.{TimedStep}
 use Rattle.cf_timed.specs.declared.timed_move.TimedMove.{TimedMove}
+use Rattle.cf_timed.specs.Arrivals.{ComesTimed, IsBegun}
 use Rattle.cf_timed.specs.Clocks.{SiteTimes, started}
 use Rattle.cf_timed.specs.DelayedRuns.{DelayRule}
 use Rattle.cf_timed.specs.Earliest.{TimedTurn}
@@ -37,7 +38,7 @@ use Rattle.cf_timed.specs.TimedRuns.{BreaksWatched, GoesWatched, RunsWatched, an
 use Rattle.cf_timed.specs.Turns.{MakesEarliest, StopsEarliest, made_as}
 use Rattle.cf_timed.specs.Watching.{watched, watched_text}
 use Rattle.cf_timed.proofs.Arriving.{text-more, watcher-more}
-use Rattle.cf_timed.proofs.Running.{ComesTimed, IsBegun, first-trace, ends-trace, run-trace, runs-timed, step-done, timed-ends, timed-first, timed-more, trace-more}
+use Rattle.cf_timed.proofs.Running.{first-trace, ends-trace, run-trace, runs-timed, step-done, timed-ends, timed-first, timed-more, trace-more}
 
 -- what the watcher has noted of some moves, and written about them
 pub record HasWatched {W : Type 0} (noted : W → Made → TimedMove → W) (text : W → Made → TimedMove → List ℕ) (plan : Plan) (rule : DelayRule)

@@ -13,9 +13,13 @@ pub record KeptMoves : Type 0 where
   pub time : ℕ
   pub moves : List Move
 
+-- no moves, at a time
+abbrev pub none_at : ℕ → KeptMoves
+none_at time = record { time = time; moves = [] }
+
 -- no moves
 abbrev pub none_kept : KeptMoves
-none_kept = record { time = 0; moves = [] }
+none_kept = none_at 0
 
 -- those of the moves that finish at this time
 unfoldable pub finishing : ClockedState → ℕ → List Move → List Move
@@ -39,21 +43,9 @@ pub record AreDue (plan : Plan) (c : ClockedState) (kept : KeptMoves) : Type 0 w
 abbrev pub most_kept : ℕ
 most_kept = 8
 
--- how far a look at moves has come: the least time so far, and the first of the moves that finish at it
-pub record Look : Type 0 where
-  pub clock : ClockedState
-  pub kept : KeptMoves
-
--- nothing was looked at
-abbrev pub first_look : ClockedState → Look
-first_look clock = record { clock = clock; kept = record { time = 2 ^ 64 - 1; moves = [] } }
-
 -- one move more, if there is room for it
 abbrev pub with_one : KeptMoves → Move → KeptMoves
 with_one kept mv = record kept { moves = take most_kept (kept.moves ++ mv ∷ []) }
-
-abbrev pub seen_with : Look → Move → Look
-seen_with s mv = record s { kept = with_one s.kept mv }
 
 -- what is kept once a move that finishes at this time was looked at
 abbrev pub kept_with : KeptMoves → Move → ℕ → KeptMoves
@@ -62,8 +54,8 @@ kept_with kept mv time =
     else (if nat_eq time kept.time then with_one kept mv else kept)
 
 -- one more move was looked at
-abbrev pub looked : Look → Move → Look
-looked s mv = record s { kept = kept_with s.kept mv (capped s.clock mv) }
+abbrev pub looked : ClockedState → KeptMoves → Move → KeptMoves
+looked c kept mv = kept_with kept mv (capped c mv)
 
 -- what is kept after a look: no move, if none finishes before the maximum number of 64 bits
 abbrev pub kept_below : KeptMoves → KeptMoves

@@ -11,8 +11,11 @@ pub mod Earliest
 pub mod Seeking
 pub mod Soonest
 pub mod DueMoves
+pub mod Looks
 pub mod MoveLines
 pub mod Watching
 pub mod TimedRuns
+pub mod Arrivals
+pub mod MakingDue
 pub mod Turns
 pub mod Limits

@@ -1,6 +1,10 @@
 -- The move that finishes earliest, if the Issues are searched after the other moves.
-use Rattle.std.specs.Prelude.{◌≡◌, ℕ, ◌<◌, ◌≤◌, All, List, Some, slice_get}
+use Rattle.std.specs.Prelude.{◌≡◌, ℕ, ◌<◌, ◌≤◌, All, List, Some, slice_get, true}
+use Rattle.cf_layout.specs.Layout.{Plan}
 use Rattle.cf_bind.specs.declared.moves.Move.{Move}
+use Rattle.cf_bind.specs.declared.moves.Move.TheVariants.{Issue}
+use Rattle.cf_bind.specs.declared.passenger.Guess.{Guess}
+use Rattle.cf_index.specs.Allowed.{is_allowed}
 use Rattle.cf_timed.specs.declared.soonest.Due.{Due}
 use Rattle.cf_timed.specs.Clocks.{ClockedState, begin_time, capped, delay_by}
 use Rattle.cf_timed.specs.DueMoves.{KeptMoves}
@@ -32,3 +36,7 @@ pub record IsFirstDue (c : ClockedState) (kept : KeptMoves) (due : Due) : Type 0
 -- each of the moves finishes later
 abbrev pub AreLater : ClockedState → List Move → ℕ → Type 0
 AreLater c moves by = All (λ mv. by < capped c mv) moves
+
+-- no allowed Issue finishes by this time, whatever it guesses
+abbrev pub NoIssueBy : Plan → ClockedState → ℕ → Type 0
+NoIssueBy plan c by = (guess : Guess) → is_allowed plan c.state (Issue guess) ≡ true → by < capped c (Issue guess)

@@ -131,7 +131,9 @@ impl Clock {
     fn allow(&mut self, time: u64)
         ensures { self.new ≡ allowed self.old time }
     {
-        self.latest = self.latest.max(time);
+        if self.latest < time {
+            self.latest = time;
+        }
     }
 
     /// When the move finishes if it is made now: the maximum time of the sites that it uses, plus its delay. The layout

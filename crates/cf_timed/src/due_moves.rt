@@ -3,27 +3,24 @@
 ghost use Rattle.std.specs.Prelude.{◌≡◌, ◌<◌, MatchOption, None, Some, length, slice_get};
 ghost use Rattle.cf_timed.specs.DueMoves.{kept_after, none_kept, without_first};
 
+use crate::found_moves::FoundMoves;
 use cf_bind::Move;
 use std::marker::Model;
 
-/// Moves that finish at one time, in the order of all moves; `next` is the index of the first that is left.
+/// Moves that finish at one time, as a look found them; `next` is the index of the first that is left.
 #[derive(Drop)]
 pub(crate) struct DueMoves {
-    pub(crate) time: u64,
+    pub(crate) found: FoundMoves,
     pub(crate) next: usize,
-    pub(crate) count: usize,
-    pub(crate) moves: [Move; 8],
 }
 
 impl Model for DueMoves {
-    ghost use Rattle.std.specs.Prelude.{◌≤◌, drop, take};
+    ghost use Rattle.std.specs.Prelude.{drop};
     ghost use Rattle.cf_timed.specs.DueMoves.{KeptMoves};
 
     ghost Value = { KeptMoves };
 
-    ghost view = { λ d. record { time = d.time; moves = drop d.next (take d.count d.moves) } };
-
-    ghost invariant = { λ d. (d.next ≤ d.count) × (d.count ≤ 8) };
+    ghost view = { λ d. record { time = d.found.time; moves = drop d.next d.found.moves } };
 }
 
 impl DueMoves {
@@ -33,10 +30,8 @@ impl DueMoves {
         ensures { result ≡ none_kept }
     {
         DueMoves {
-            time: 0,
+            found: FoundMoves::new(),
             next: 0,
-            count: 0,
-            moves: [Move::Exit; 8],
         }
     }
 
@@ -45,29 +40,27 @@ impl DueMoves {
     pub(crate) fn time(&self) -> u64
         ensures { result ≡ self.now.time }
     {
-        self.time
+        self.found.time()
     }
 
     /// The first of the moves.
     #[inline(always)]
-    #[tactic(auto, using(crate::proofs::KeptLists::kept_first, crate::proofs::KeptLists::kept_none))]
+    #[tactic(auto, using(crate::proofs::KeptLists::left_first))]
     pub(crate) fn first(&self) -> Option<&Move>
         ensures { MatchOption result (None ≡ slice_get self.now.moves 0) (λ mv. Some mv.now ≡ slice_get self.now.moves 0) }
     {
-        if self.next < self.count {
-            Some(&self.moves[self.next])
-        } else {
-            None
-        }
+        self.found.get(self.next)
     }
 
     /// Leaves out the first of the moves.
     #[inline(always)]
-    #[tactic(auto, using(crate::proofs::KeptLists::kept_fewer, crate::proofs::KeptLists::kept_some))]
+    #[tactic(auto, using(crate::proofs::KeptLists::left_fewer, crate::proofs::KeptLists::left_some))]
     pub(crate) fn skip(&mut self)
         requires { 0 < length self.old.moves }
         ensures { self.new ≡ without_first self.old }
     {
+        // An index below the number of moves, so that one more fits its type.
+        let _count = self.found.count();
         self.next += 1;
     }
 
@@ -76,9 +69,8 @@ impl DueMoves {
     fn clear(&mut self)
         ensures { self.new ≡ none_kept }
     {
-        self.time = 0;
+        self.found.clear_to(0);
         self.next = 0;
-        self.count = 0;
     }
 
     /// Leaves out all moves, unless a move that finished at their time was made; after a Serve all are left out.
@@ -88,7 +80,7 @@ impl DueMoves {
     {
         let goes_on = match mv {
             Move::Serve => false,
-            _ => time == self.time && time < u64::MAX,
+            _ => time == self.found.time() && time < u64::MAX,
         };
         if !goes_on {
             self.clear();

@@ -9,6 +9,7 @@ ghost use Rattle.run_finishes.specs.Stopped.{input_stopped, output_stopped};
 ghost use Rattle.cf_run.specs.Made.{CanCount};
 ghost use Rattle.cf_run.specs.Moving.{run_place_of};
 ghost use Rattle.cf_run.specs.Policies.{most_moves};
+ghost use Rattle.cf_timed.specs.Arrivals.{HasComeTimed, LeadsTimed, timed_at};
 ghost use Rattle.cf_timed.specs.Clocks.{IsClockOf, clocked, rule_of_clock};
 ghost use Rattle.cf_timed.specs.DueMoves.{AreDue};
 ghost use Rattle.cf_timed.specs.TimedRuns.{CanBegin, GoesShown, GoesWatched, HasCauses, RunsTimed, answer_of_timed, answer_at_end, begins};
@@ -17,6 +18,7 @@ ghost use Rattle.cf_timed.specs.Turns.{TurnsTimed, stop_of};
 use crate::answer::{Timed, TimedRun};
 use crate::clock::Clock;
 use crate::due_moves::DueMoves;
+use crate::making_due::make_due_moves;
 use crate::move_lines::MoveLines;
 use crate::options::TimedOptions;
 use crate::step::TimedStep;
@@ -170,7 +172,28 @@ pub fn run_watched<W: Watcher, S: Source, K: Sink, R: Sink>(
     }
 }
 
-/// Runs an opened processor as `run_watched` does, without a watcher.
+/// Makes and records moves that are due, as `make_due_moves` does, unless the run is over.
+#[inline(always)]
+fn make_due_if_on(
+    core: &mut Core,
+    clock: &mut Clock,
+    pace: &Pace,
+    limit: u64,
+    kept: &mut DueMoves,
+    tally: &mut Tally,
+)
+    requires come { HasComeTimed limit pace.now (timed_at core.old clock.old tally.old) }
+    requires due { core.old.state.ending ≡ None → AreDue core.old.plan (clocked clock.old core.old.state) kept.old }
+    ensures leads { LeadsTimed limit pace.now (timed_at core.old clock.old tally.old) (timed_at core.new clock.new tally.new) }
+    ensures due { core.new.state.ending ≡ None → AreDue core.new.plan (clocked clock.new core.new.state) kept.new }
+{
+    if over(core, limit).is_none() {
+        make_due_moves(core, clock, pace, limit, kept, tally);
+    }
+}
+
+/// Runs an opened processor as `run_watched` does, without a watcher. The moves that are due at one time are made in a
+/// loop of their own, as long as nothing enters at the bottom or leaves by them.
 pub fn run_timed<S: Source, K: Sink>(
     core: &mut Core,
     candidates: &mut Candidates,
@@ -186,20 +209,35 @@ pub fn run_timed<S: Source, K: Sink>(
     ensures bounded { result.moves ≤ most_moves core.old.plan (core.new.state.retired - core.old.state.retired) }
     ensures causes { HasCauses (S.faults input.old) (S.faults input.new) (K.faults output.old) (K.faults output.new) (Some (answer_of_timed result.answer)) }
 {
-    let ran = run_watched(
-        core,
-        candidates,
-        clock,
-        &mut Unwatched,
-        options,
-        input,
-        output,
-        &mut Nowhere,
-    );
-    match ran {
-        Ok(run) => run,
-        // A sink that keeps nothing never fails.
-        Err(Failed) => unreachable!(),
+    known(core);
+    clock.known();
+    let mut kept = DueMoves::new();
+    let mut pace = Pace::new(options.rule, core.layout().stages());
+    let mut tally = Tally {
+        moves: 0,
+        meets: 0,
+        kills: 0,
+        dead: 0,
+    };
+    loop {
+        make_due_if_on(core, clock, &pace, options.limit, &mut kept, &mut tally);
+        if let Err(ran) = advance(
+            &Unwatched,
+            core,
+            candidates,
+            clock,
+            &mut pace,
+            &mut kept,
+            options.limit,
+            input,
+            output,
+            &mut tally,
+        ) {
+            return TimedRun {
+                answer: timed(ran),
+                moves: tally.moves,
+            };
+        }
     }
 }
 

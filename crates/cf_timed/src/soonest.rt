@@ -1,6 +1,6 @@
 //! The move that finishes earliest, found without filling in the candidates.
 
-ghost use Rattle.std.specs.Prelude.{◌≡◌, ◌-◌, ◌≤◌, ◌^◌, Bool, IfSome, None, [], slice_get, true};
+ghost use Rattle.std.specs.Prelude.{◌≡◌, ◌-◌, ◌≤◌, ◌^◌, Bool, IfSome, None, [], false, slice_get, true};
 ghost use Rattle.std.specs.List.{AllByRecursion};
 ghost use Rattle.run_options.specs.declared.guess_rule.GuessRule.{GuessRule as Rule};
 ghost use Rattle.cf_bind.specs.declared.passenger.Guess.TheVariants as guesses;
@@ -9,7 +9,7 @@ ghost use Rattle.cf_index.specs.Allowed.{allowed_others, kept_issues, unheld_iss
 ghost use Rattle.cf_index.specs.GuessRules.{guided};
 ghost use Rattle.cf_timed.specs.Clocks.{capped, clocked};
 ghost use Rattle.cf_timed.specs.DueMoves.{AreDue, IsLeft, still_due};
-ghost use Rattle.cf_timed.specs.Soonest.{AreLater, IsFirstDue, IsIssueBy, IsSoonest, IsTimed};
+ghost use Rattle.cf_timed.specs.Soonest.{AreLater, IsFirstDue, IsIssueBy, IsSoonest, IsTimed, NoIssueBy};
 
 use crate::clock::Clock;
 use crate::due_moves::DueMoves;
@@ -43,7 +43,7 @@ fn issues_none(core: &Core) -> bool
 }
 
 /// The first of the allowed Issues that the guess rule keeps.
-// It is asked for rarely, and decodes an instruction.
+// It is asked for rarely, and decodes an instruction if no template is kept for its address.
 #[inline(never)]
 fn first_issue(core: &Core, rule: GuessRule) -> Option<Move>
     ensures { result ≡ slice_get (kept_issues rule core.now.plan core.now.state) 0 }
@@ -84,9 +84,10 @@ impl Clock {
         }
     }
 
-    /// The first Issue that is allowed, kept by the guess rule and not held back, if it finishes by this time. The
-    /// search is made only if an Issue would finish by then, since it has to decode an instruction; all Issues use the
-    /// same sites. No time is computed if the lowest stage has an instruction, or if fetch waits.
+    /// The first Issue that is allowed, kept by the guess rule and not held back, if it finishes by
+    /// this time. The search is made only if an Issue would finish by then, since an instruction
+    /// for whose address no template is kept has to be decoded; all Issues use the same sites. No
+    /// time is computed if the lowest stage has an instruction, or if fetch waits.
     #[inline(always)]
     #[tactic(auto, using(crate::proofs::Sooner::issue_due))]
     fn issue_by(&self, core: &Core, rule: GuessRule, held: bool, by: u64) -> Option<Due>
@@ -109,20 +110,53 @@ impl Clock {
         }
     }
 
+    /// Whether no allowed Issue finishes by this time, whatever it guesses. An instruction is decoded
+    /// only if an Issue would finish by then. Whether Issue is held back is not asked.
+    #[inline(always)]
+    fn no_issue_by(&self, core: &Core, by: u64) -> bool
+        ensures none { result ≡ true → NoIssueBy core.now.plan (clocked self.now core.now.state) by }
+        ensures some { NoIssueBy core.now.plan (clocked self.now core.now.state) by → result ≡ true }
+    {
+        if issues_none(core) {
+            return true;
+        }
+        if by < self.timed_issue(core).time {
+            return true;
+        }
+        first_issue(core, GuessRule::Any).is_none()
+    }
+
+    /// Whether Issue is held back, or no allowed Issue finishes by this time, whatever it guesses.
+    // If Issue is held back, this is lost once it no longer is: a retirement may end that.
+    #[inline(always)]
+    pub(crate) fn offers_no_issue(&self, core: &Core, held: bool, by: u64) -> bool
+        ensures none { result ≡ true → held ≡ false → NoIssueBy core.now.plan (clocked self.now core.now.state) by }
+        ensures held { held ≡ true → result ≡ true }
+        ensures some { NoIssueBy core.now.plan (clocked self.now core.now.state) by → result ≡ true }
+    {
+        held || self.no_issue_by(core, by)
+    }
+
     /// Looks at the allowed moves other than Issue, and keeps those that finish earliest. It keeps none if no time is
     /// below the maximum `u64`.
-    // A look is needed for one move in three, and is much larger than the rest of what picks a move.
+    // A look is needed for one move in four, and is much larger than the rest of what picks a move.
     #[inline(never)]
-    fn look(&self, core: &Core, kept: &mut DueMoves)
+    pub(crate) fn look(&self, core: &Core, kept: &mut DueMoves)
         ensures due { AreDue core.now.plan (clocked self.now core.now.state) kept.new }
         ensures still { still_due self.now kept.new ≡ kept.new.moves }
         ensures some { kept.new.moves ≡ [] → AllByRecursion (λ mv. 2 ^ 64 - 1 ≤ capped (clocked self.now core.now.state) mv) (allowed_others core.now.plan core.now.state) }
     {
         self.known();
         let _layout = core.layout();
-        let mut looking = Looking::new(self, core, kept.moves);
+        kept.next = 0;
+        kept.found.clear_to(u64::MAX);
+        let mut looking = Looking {
+            clock: self,
+            core,
+            found: &mut kept.found,
+        };
         Candidates::visit_others(core, &mut looking);
-        looking.keep(kept);
+        kept.found.clear_if_never();
     }
 
     /// The first of the kept moves that is still due; those before it are left out.

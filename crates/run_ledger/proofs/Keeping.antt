@@ -15,7 +15,7 @@ use Rattle.cf_timed.specs.Times.{DelayedMove, done_after, greatest_time, finish_
 use Rattle.cf_timed.specs.Clocks.{AreKept, IsKept}
 use Rattle.cf_timed.proofs.Chaining.{always}
 use Rattle.cf_timed.proofs.Following.{no_later}
-use Rattle.cf_timed.proofs.Greatest.{greatest_where}
+use Rattle.cf_timed.specs.Arrivals.{greatest_where}
 use Rattle.cf_timed.proofs.Delaying.{kept_time}
 use Rattle.run_ledger.specs.Breakdowns.{busy, chain_to, is_last, kind_counts, leads_to, longest_chain, of_kind}
 use Rattle.run_ledger.specs.Using.{uses_siding, uses_stage}

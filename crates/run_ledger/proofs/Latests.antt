@@ -5,7 +5,8 @@ use Rattle.std.specs.List.{list_any}
 use Rattle.std.proofs.lemmas.Bool.Decides.{nat_tests}
 use Rattle.cf_layout.specs.Layout.{Plan}
 use Rattle.cf_timed.specs.declared.timed_move.TimedMove.{TimedMove}
-use Rattle.cf_timed.proofs.Greatest.{greatest_where, where_more, where_none}
+use Rattle.cf_timed.specs.Arrivals.{greatest_where}
+use Rattle.cf_timed.proofs.Greatest.{where_more, where_none}
 use Rattle.run_ledger.specs.Breakdowns.{chain_to, kind_counts, leads_to, of_kind}
 use Rattle.run_ledger.specs.SeenMoves.{untimed}
 use Rattle.run_ledger.specs.Ledgers.{later, latest_of, no_chain_mark}

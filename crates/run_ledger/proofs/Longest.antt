@@ -9,7 +9,8 @@ use Rattle.cf_timed.specs.Chains.{AreLinked, ArePart, IsChain, sum_of_delays}
 use Rattle.cf_timed.specs.declared.timed_move.TimedMove.{TimedMove}
 use Rattle.cf_timed.specs.Times.{DelayedMove, done_after, greatest_time, finish_after, moves_with_times, times_after}
 use Rattle.cf_timed.proofs.Chaining.{always, linked_last, part_last, part_more, shares_turned, sum_last, sum_none}
-use Rattle.cf_timed.proofs.Greatest.{greatest_where, where_more, where_none}
+use Rattle.cf_timed.specs.Arrivals.{greatest_where}
+use Rattle.cf_timed.proofs.Greatest.{where_more, where_none}
 use Rattle.run_ledger.specs.Breakdowns.{chain_to, is_last, leads_to, longest_chain}
 use Rattle.run_ledger.specs.SeenMoves.{untimed}
 

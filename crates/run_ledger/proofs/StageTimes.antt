@@ -13,7 +13,8 @@ use Rattle.cf_timed.specs.Earliest.{TimedTurn, after_turn}
 use Rattle.cf_timed.specs.TimedRuns.{timed_start}
 use Rattle.cf_timed.specs.Times.{DelayedMove, before, delayed, done_after, greatest_time, finish_after, moves_with_times, times_after}
 use Rattle.cf_timed.proofs.Delaying.{kept_time}
-use Rattle.cf_timed.proofs.Following.{last_at, no_later}
+use Rattle.cf_timed.specs.Arrivals.{last_at}
+use Rattle.cf_timed.proofs.Following.{no_later}
 use Rattle.cf_timed.proofs.Greatest.{where_more, where_none}
 use Rattle.run_ledger.specs.Breakdowns.{busy}
 use Rattle.run_ledger.specs.Gaps.{Gap, empty_time, gaps, gaps_from, holds_any, gap_total, users, waiting}
