@@ -15,6 +15,8 @@ mod gathered;
 #[cfg(test)]
 mod logs;
 #[cfg(test)]
+mod plain_bodies;
+#[cfg(test)]
 mod processors;
 #[cfg(test)]
 mod report_lines;
