@@ -1,5 +1,5 @@
-//! Runs of which no move is shown make moves in sweeps, draw them from packed words, or make those that are due at one time one
-//! after another. They are compared with runs that fill in all candidates before each move, and pick from them.
+//! Runs of which no move is shown make moves in sweeps, or draw them from packed words. They are compared with runs that fill in
+//! all candidates before each move, and pick from them.
 
 ghost use Rattle.std.specs.Prelude.{◌≡◌, ◌≤◌};
 ghost use Rattle.cf_core.specs.Processors.{IsOpened};
